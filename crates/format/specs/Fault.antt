@@ -1,0 +1,24 @@
+-- Which rule is broken first, and where. A fault with number 0 says that none is.
+use Prim.Native.Nat.{ℕ, zero, suc}
+use mathlib.Core.Bool.{Bool, true, false}
+use Rattle.format.specs.declared.Fault.{Fault}
+
+abbrev pub fault : ℕ → ℕ → Fault
+fault n p = record { number = n; place = p }
+
+abbrev pub noFault : Fault
+noFault = fault 0 0
+
+-- rule n is broken at p, if the test says so
+abbrev pub given : Bool → ℕ → ℕ → Fault
+given true n p = fault n p
+given false n p = noFault
+
+infixr 20 _orElse_
+-- the first of two judgements if it names a broken rule, else the second
+unfoldable pub _orElse_ : Fault → Fault → Fault
+_orElse_ x y = elim (x .number) [ zero ↦ y | suc n ↦ x ]
+
+-- a number that goes with no broken rule, and 0 with one
+abbrev pub ifKept : Fault → ℕ → ℕ
+ifKept x n = elim (x .number) [ zero ↦ n | suc m ↦ 0 ]

@@ -1,0 +1,26 @@
+-- Laws of the definitions: what the proofs of the code rest on, and that the definitions meet demand 3. A reader of the contracts
+-- need not read what stands here.
+
+-- of each definition by itself
+pub mod Faults
+pub mod Reads
+pub mod Strings
+pub mod Names
+pub mod Header
+pub mod Paths
+pub mod Images
+pub mod Records
+pub mod Rules
+pub mod Directory
+-- of chains, walks and the check
+pub mod Below
+pub mod Pigeonhole
+pub mod Links
+pub mod Apart
+pub mod Walk
+pub mod Along
+pub mod Course
+pub mod Buckets
+pub mod Verdict
+pub mod Lookup
+pub mod Demand

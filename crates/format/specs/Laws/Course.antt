@@ -1,0 +1,101 @@
+-- What the first N steps of a chain can be like: one of four ways, and one is always at hand.
+use Prim.Native.Nat.{ℕ, zero, suc, _+_, _-_, _<_}
+use mathlib.Core.Path.{_≡_, refl, sym, ap, _∙_}
+use mathlib.Core.List.{List}
+use native.Mathlib.Omega.{arith}
+use native.Mathlib.Decide.{ℕ-discrete, decLe}
+use borrow.Author.Tests.{le-leb, lt-leb}
+use lib.ListN.{length}
+use Rattle.format.specs.Number.{inside}
+use Rattle.format.specs.Fault.{fault, noFault}
+use Rattle.format.specs.Header.{endValue}
+use Rattle.format.specs.Record.{recordFault, nameOf}
+use Rattle.format.specs.Chain.{walkEnds, walkBucket}
+use Rattle.format.specs.Words.{link, linkField, Inside, Keeps, KeepsAt, KeepsBelow, NoneBelow, Holds, Breaks}
+use Rattle.format.specs.declared.Walk.{Walk}
+use Rattle.format.specs.declared.Ending.{Ending}
+use Rattle.format.specs.declared.Ending.the-variants.{Ended, Met, Broken, Endless}
+use Rattle.format.specs.Laws.Below.{below-suc}
+use Rattle.format.specs.Laws.Faults.{orElse-next, orElse-first}
+use Rattle.format.specs.Laws.Names.{equal-or-not}
+use Rattle.format.specs.Laws.Along.{walk-ends, walk-meets, walk-breaks, walk-lasts}
+
+pub data Course (s name : List ℕ) (k N : ℕ) : Type 0 where
+  ends : {n : ℕ} → n < N → Holds s k n → NoneBelow s name k n → Course s name k N
+  meets : {n : ℕ} → n < N → KeepsBelow s k n → NoneBelow s name k n → KeepsAt s k n → nameOf s (link s k n) ≡ name → Course s name k N
+  breaks : {n x p : ℕ} → n < N → Breaks s k n x p → NoneBelow s name k n → Course s name k N
+  lasts : KeepsBelow s k N → NoneBelow s name k N → Course s name k N
+
+module _ (s name : List ℕ) (k : ℕ) where
+  module _ (n : ℕ) (keeps : KeepsBelow s k n) (none : NoneBelow s name k n) (real : link s k n ≡ endValue → ⊥) where
+    outside : (Inside s (link s k n) → ⊥) → Breaks s k n 7 (linkField s k n)
+    outside out = record {
+      keeps = keeps;
+      real = real;
+      broken = rw (lt-leb (link s k n + 12) (length s) (omega arith)) (orElse-first (fault 7 (linkField s k n)) _ (λ z. omega arith));
+      some = omega arith;
+    }
+
+    broken : Inside s (link s k n) → 0 < recordFault s k (link s k n) .number
+        → Breaks s k n (recordFault s k (link s k n) .number) (recordFault s k (link s k n) .place)
+    broken inn some = record {
+      keeps = keeps;
+      real = real;
+      broken = rw (le-leb (link s k n + 12) (length s) inn) (orElse-next noFault (recordFault s k (link s k n)) refl);
+      some = some;
+    }
+
+    kept : KeepsAt s k n → Dec (nameOf s (link s k n) ≡ name) → Course s name k (suc n)
+    kept here (yes same) = meets {n = n} (omega arith) keeps none here same
+    kept here (no other) = lasts (below-suc keeps here) (below-suc none other)
+
+    ruled : Inside s (link s k n) → (m : ℕ) → recordFault s k (link s k n) .number ≡ m → Course s name k (suc n)
+    ruled inn zero e = kept (real, record { inside = inn; rules = e }) (equal-or-not (nameOf s (link s k n)) name)
+    ruled inn (suc m) e = breaks {n = n} (omega arith) (broken inn (omega arith)) none
+
+    named : Dec (Inside s (link s k n)) → Course s name k (suc n)
+    named (no out) = breaks {n = n} (omega arith) (outside out) none
+    named (yes inn) = ruled inn (recordFault s k (link s k n) .number) refl
+
+  step : (n : ℕ) → KeepsBelow s k n → NoneBelow s name k n → Course s name k (suc n)
+  step n keeps none = elim (ℕ-discrete (link s k n) endValue) [
+    | yes e ↦ ends {n = n} (omega arith) (record { keeps = keeps; ends = e }) none
+    | no real ↦ named n keeps none real (decLe (link s k n + 12) (length s))
+  ]
+
+  pub course : (N : ℕ) → Course s name k N
+  course zero = lasts (λ m h. absurd (omega arith)) (λ m h. absurd (omega arith))
+  course (suc N) = longer (course N)
+    where
+      longer : Course s name k N → Course s name k (suc N)
+      longer (ends {n = n} l h none) = ends {n = n} (omega arith) h none
+      longer (meets {n = n} l keeps none here same) = meets {n = n} (omega arith) keeps none here same
+      longer (breaks {n = n} l b none) = breaks {n = n} (omega arith) b none
+      longer (lasts keeps none) = step N keeps none
+
+same-ending : {a b : Ending} {o p : ℕ} → walkEnds a o ≡ walkEnds b p → a ≡ b
+same-ending e = ap (λ (w : Walk). w .ending) e
+
+-- what the end of a walk tells of the record that it stopped at
+module _ (s name : List ℕ) (k o : ℕ) {p : ℕ} where
+  module _ {e : Ending} (q : walkBucket s name k o ≡ walkEnds e p) where
+    was : {a : Ending} {u : ℕ} → walkBucket s name k o ≡ walkEnds a u → a ≡ e
+    was h = same-ending (sym h ∙ q)
+
+  pub met-keeps : {r : ℕ} → walkBucket s name k o ≡ walkEnds (Met r) p → Keeps s k r
+  met-keeps {r} e = go (course s name k (length s - 10 - o))
+    where
+      go : Course s name k (length s - 10 - o) → Keeps s k r
+      go (ends l h none) = let z : _≡_ {A = ℕ} 0 1 = cc (was e (walk-ends s name k o l h none)) in absurd (omega arith)
+      go (meets {n = n} l keeps none here same) = let z : link s k n ≡ r = cc (was e (walk-meets s name k o l keeps none here same)) in rw (← z) (here .1)
+      go (breaks l b none) = let z : _≡_ {A = ℕ} 0 1 = cc (was e (walk-breaks s name k o l b none)) in absurd (omega arith)
+      go (lasts keeps none) = let z : _≡_ {A = ℕ} 0 1 = cc (was e (walk-lasts s name k o _ keeps none)) in absurd (omega arith)
+
+  pub broken-some : {x q : ℕ} → walkBucket s name k o ≡ walkEnds (Broken x q) p → x ≡ 0 → ⊥
+  broken-some {x} e zero-x = go (course s name k (length s - 10 - o))
+    where
+      go : Course s name k (length s - 10 - o) → ⊥
+      go (ends l h none) = let z : _≡_ {A = ℕ} 0 1 = cc (was e (walk-ends s name k o l h none)) in omega arith
+      go (meets l keeps none here same) = let z : _≡_ {A = ℕ} 0 1 = cc (was e (walk-meets s name k o l keeps none here same)) in omega arith
+      go (breaks {x = y} l b none) = let z : y ≡ x = cc (was e (walk-breaks s name k o l b none)) in omega (arith, b .some)
+      go (lasts keeps none) = let z : _≡_ {A = ℕ} 0 1 = cc (was e (walk-lasts s name k o _ keeps none)) in omega arith

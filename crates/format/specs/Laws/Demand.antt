@@ -1,0 +1,134 @@
+-- The check's answer in the words of demand 3, and demand 3.
+use Prim.Native.Nat.{ℕ, zero, suc, _+_, _-_, _≤_, _<_}
+use mathlib.Core.Path.{_≡_, refl, sym, ap, _∙_}
+use mathlib.Core.Logic.{_↔_, Iff·trans}
+use mathlib.Core.List.{List, []}
+use mathlib.Core.Bool.{Bool, true, false}
+use native.Mathlib.Nat.{mod-lt}
+use native.Mathlib.Omega.{arith}
+use lib.ListN.{length}
+use lib.Dec.{eqb}
+use Rattle.format.specs.Choice.{if_then_else_}
+use Rattle.format.specs.Text.{hash, allowed}
+use Rattle.format.specs.Header.{buckets, bucketField, directories}
+use Rattle.format.specs.Record.{nameOf, bucketOf}
+use Rattle.format.specs.Call.{check, checked, lookup}
+use Rattle.format.specs.Words.{link, KeepsBelow, NoneBelow, OnChain, Holds, Breaks, Sound, Accepted, Loops, Lengths, sum, itself, CheckDemand, LookupKept, Demand3, CheckAnswers}
+use Rattle.format.specs.declared.Fault.{Fault}
+use Rattle.format.specs.declared.CheckAnswer.{CheckAnswer}
+use Rattle.format.specs.declared.LookupAnswer.{LookupAnswer}
+use Rattle.format.specs.Laws.Header.{header-right}
+use Rattle.format.specs.Laws.Rules.{tables-right, tables-number}
+use Rattle.format.specs.Laws.Links.{on-chain, chain-on, one-step, once, keeps-bucket, never-breaks, broken-number}
+use Rattle.format.specs.Laws.Course.{course}
+use Rattle.format.specs.Laws.Buckets.{lengths, few, total, check-refuses, answers-accepted, answers-broken, answers-loop}
+use Rattle.format.specs.Laws.Verdict.{Verdict, unsound, accepted, broken, looped, verdict, sound-long}
+use Rattle.format.specs.Laws.Lookup.{query-right, InChain, in-chain}
+
+number : {a b : CheckAnswer} → a ≡ b → a .number ≡ b .number
+number e = ap (λ (a : CheckAnswer). a .number) e
+
+opened : {a b : CheckAnswer} → a ≡ b → a .opened ≡ b .opened
+opened e = ap (λ (a : CheckAnswer). a .opened) e
+
+at-most-one : (x : ℕ) → itself x ≤ 1
+at-most-one x = go (eqb x 7)
+  where
+    go : (b : Bool) → (if b then 0 else 1) ≤ 1
+    go true = omega arith
+    go false = omega arith
+
+module _ {s : List ℕ} where
+  accepts : Accepted s → (f : ℕ → ℕ) → Lengths s (buckets s) f → check s ≡ checked 0 0 (directories s) (sum f (buckets s)) (sum f (buckets s))
+  accepts acc f h = answers-accepted f (sound-long s (acc .sound)) (acc .sound) h
+
+  breaks : {k n x p : ℕ} (f : ℕ → ℕ) → k < buckets s → Sound s → Lengths s k f → Breaks s k n x p → check s ≡ checked x p 0 0 (sum f k + n + itself x)
+  breaks f l sound h b = answers-broken f (sound-long s sound) l sound h b
+
+  loops : {k : ℕ} → Loops s k → check s ≡ checked 12 (bucketField s k) 0 0 (length s - 10)
+  loops l =
+      let (f, h) = lengths (l .held) in
+      answers-loop f (sound-long s (l .held .sound)) (l .bucket) (l .held .sound) h (λ n. (l .turns .endless n .0, l .turns .keeps n))
+
+  opens : Verdict s → check s .opened ≤ length s - 10
+  opens (unsound e) = omega (arith, opened (check-refuses s e (λ z. omega arith)))
+  opens (accepted acc) =
+      let (f, h) = lengths acc in
+      omega (arith, opened (accepts acc f h), total f h)
+  opens (broken {x = x} l held b) =
+      let (f, h) = lengths held in
+      omega (arith, opened (breaks f l (held .sound) h b), few f h (b .keeps) (λ c. never-breaks c b), at-most-one x, sound-long s (held .sound))
+  opens (looped l) = omega (arith, opened (loops l))
+
+  loop-of : Verdict s → check s .number ≡ 12 → (k : ℕ) × Loops s k
+  loop-of (unsound e) q = absurd (omega (arith, number (check-refuses s e (λ z. omega arith)), tables-number s, ap (λ (f : Fault). f .number) e))
+  loop-of (accepted acc) q = let (f, h) = lengths acc in absurd (omega (arith, number (accepts acc f h)))
+  loop-of (broken l held b) q = let (f, h) = lengths held in absurd (omega (arith, number (breaks f l (held .sound) h b), broken-number b))
+  loop-of (looped {k = k} l) q = (k, l)
+
+  accepted-of : Verdict s → check s .number ≡ 0 → Accepted s
+  accepted-of (unsound e) q = absurd (omega (arith, number (check-refuses s e (λ z. omega arith))))
+  accepted-of (accepted acc) q = acc
+  accepted-of (broken l held b) q = let (f, h) = lengths held in absurd (omega (arith, number (breaks f l (held .sound) h b), b .some))
+  accepted-of (looped l) q = absurd (omega (arith, number (loops l)))
+
+  module _ (acc : Accepted s) where
+    -- a record on the chain of a bucket has a name of that bucket
+    chain-bucket : {k n r : ℕ} → k < buckets s → OnChain s k n r → bucketOf s (nameOf s r) ≡ k
+    chain-bucket l c = keeps-bucket (on-chain (acc .lower _ l .1) c .1)
+
+    apart : (j k m n r : ℕ) → j < buckets s → k < buckets s → OnChain s j m r → OnChain s k n r → (j ≡ k) × (m ≡ n)
+    apart j k m n r l g c d =
+        let e = sym (chain-bucket l c) ∙ chain-bucket g d in
+        let h = acc .lower k g .1 in
+        (e, one-step h (on-chain h (rw e at c) .0) (on-chain h d .0) (rw (← e) (c .named) ∙ sym (d .named)))
+
+    module _ (name : List ℕ) where
+      bucket-below : bucketOf s name < buckets s
+      bucket-below = mod-lt (hash name) (header-right s (tables-right s (acc .sound)) .buckets-some)
+
+      -- no record of the name's chain bears the name: no record of any chain does
+      nowhere : {n : ℕ} → Holds s (bucketOf s name) n
+          → NoneBelow s name (bucketOf s name) n ↔ ((k m r : ℕ) → k < buckets s → OnChain s k m r → nameOf s r ≡ name → ⊥)
+      nowhere h = (
+        λ none k m r l c e.
+            let d : OnChain s (bucketOf s name) m r = rw (sym (chain-bucket l c) ∙ ap (bucketOf s) e) at c in
+            none m (on-chain h d .0) (rw (d .named) e),
+        λ none m l. none _ m _ bucket-below (chain-on h l),
+      )
+
+      found : (room n : ℕ) → allowed name ≡ true → Holds s (bucketOf s name) n → InChain s name (bucketOf s name) n (lookup s name room)
+      found room n a h =
+          in-chain s name room (query-right s name a (tables-right s (acc .sound))) (sound-long s (acc .sound)) h (course s name (bucketOf s name) (suc n))
+
+pub check-answers : (s : List ℕ) → CheckAnswers s
+check-answers s = record {
+  accepts = accepts;
+  refuses-tables = λ x p e. check-refuses s e (λ z. omega arith);
+  refuses-record = λ k n x p f l sound h b. breaks f l sound h b;
+  refuses-loop = λ k l. loops l;
+}
+
+pub check-demand : (s : List ℕ) → CheckDemand s (check s)
+check-demand s = record {
+  opens = λ l. opens (verdict s);
+  loop = (loop-of (verdict s), λ h. number (loops (h .1)));
+  loop-place = λ k l. ap (λ (a : CheckAnswer). a .place) (loops l);
+  accepted = (accepted-of (verdict s), λ acc. let (f, h) = lengths acc in number (accepts acc f h));
+}
+
+pub lookup-demand : (s name : List ℕ) (room : ℕ) → LookupKept s name (lookup s name room)
+lookup-demand s name room acc a =
+    let h = acc .lower (bucketOf s name) (bucket-below acc name) in
+    record {
+      opens = λ n g. found acc name room n a g .opens;
+      absent = Iff·trans (found acc name room (h .0) a (h .1) .absent) (nowhere acc name (h .1));
+    }
+
+pub demand3 : (s : List ℕ) → Demand3 s
+demand3 s = record {
+  checks = check-demand s;
+  apart = apart;
+  few = λ acc f h. total f h;
+  looks-up = lookup-demand s;
+}

@@ -1,0 +1,40 @@
+-- Rule 11 on the images of a list, one after the other, and their words.
+use Prim.Native.Nat.{ℕ, zero, suc, _+_, _*_, _≤_}
+use mathlib.Core.Path.{_≡_, refl}
+use mathlib.Core.List.{List, [], _∷_}
+use mathlib.Core.Bool.{true, false, not}
+use native.Mathlib.Nat.{suc-add}
+use native.Mathlib.Numerals.{add-one}
+use native.Mathlib.Omega.{arith}
+use lib.ListN.{length, drop, set}
+use Rattle.format.specs.Number.{be}
+use Rattle.format.specs.Fault.{fault, noFault}
+use Rattle.format.specs.Record.{imageRight, imagesFault, imageWords}
+use Rattle.format.specs.Laws.Faults.{broken-speaks, kept-passes}
+
+module _ (s : List ℕ) (p n : ℕ) where
+  pub images-end : n ≡ 0 → imagesFault n s p ≡ noFault
+  unfolding imagesFault
+  images-end e = rw e
+
+  pub images-stop : (m : ℕ) → n ≡ m + 1 → not (imageRight s p) ≡ true → imagesFault n s p ≡ fault 11 p
+  unfolding imagesFault
+  images-stop m e broken = rw (e, add-one m) (broken-speaks (not (imageRight s p)) _ _ _ broken)
+
+  pub images-go-on : (m : ℕ) → n ≡ m + 1 → not (imageRight s p) ≡ false → imagesFault n s p ≡ imagesFault m s (p + 8)
+  unfolding imagesFault
+  images-go-on m e kept = rw (e, add-one m) (kept-passes (not (imageRight s p)) _ _ _ kept)
+
+-- two words stored side by side, and what stood after them
+pub two-stored : (ws : List ℕ) (i a b : ℕ) → i + 2 ≤ length ws → drop i (set (set ws i a) (i + 1) b) ≡ a ∷ b ∷ drop (i + 2) ws
+two-stored [] i a b h = absurd (omega arith)
+two-stored (x ∷ []) zero a b h = absurd (omega arith)
+two-stored (x ∷ []) (suc i) a b h = absurd (omega arith)
+two-stored (x ∷ (y ∷ ws)) zero a b h = refl
+two-stored (x ∷ (y ∷ ws)) (suc i) a b h = rw (suc-add, suc-add) (two-stored (y ∷ ws) i a b (omega arith))
+
+-- the words of one more image before the rest
+pub words-cons : (s : List ℕ) (n p : ℕ) (m : ℕ) → n ≡ m + 1
+    → imageWords n s p ≡ (be 2 s p * 65536 + be 2 s (p + 2)) ∷ be 4 s (p + 4) ∷ imageWords m s (p + 8)
+unfolding imageWords
+words-cons s n p m e = rw (e, add-one m)

@@ -1,0 +1,106 @@
+-- Chains as sequences of links: where a chain that holds ends, and that a chain that repeats goes on for ever.
+use Prim.Native.Nat.{ℕ, zero, suc, _+_, _*_, _≤_, _<_}
+use mathlib.Core.Path.{_≡_, refl, sym, ap, _∙_}
+use mathlib.Core.Logic.{inl, inr}
+use mathlib.Core.List.{List, []}
+use mathlib.Core.Bool.{and-eq-true-iff}
+use native.Mathlib.Decide.{ℕ-discrete, decLe}
+use native.Mathlib.Nat.{le-antisymm}
+use native.Mathlib.Omega.{arith}
+use borrow.Author.Tests.{le-leb, lt-leb}
+use lib.ListN.{length}
+use Rattle.format.specs.Number.{be}
+use Rattle.format.specs.Fault.{fault, noFault}
+use Rattle.format.specs.Header.{endValue}
+use Rattle.format.specs.Record.{recordFault, nameOf, bucketOf, namePart, imagesAt, images}
+use Rattle.format.specs.Words.{link, linkField, Inside, Keeps, KeepsAt, KeepsBelow, Holds, Breaks, OnChain}
+use Rattle.format.specs.declared.Fault.{Fault}
+use Rattle.format.specs.Laws.Below.{le-unless, lt-unless}
+use Rattle.format.specs.Laws.Reads.{list-ends}
+use Rattle.format.specs.Laws.Faults.{orElse-next, orElse-first}
+use Rattle.format.specs.Laws.Strings.{whole-named}
+use Rattle.format.specs.Laws.Rules.{record-right, record-number}
+
+-- two steps below n name one record
+pub record Repeat (s : List ℕ) (k n : ℕ) : Type 0 where
+  pub first : ℕ
+  pub second : ℕ
+  pub order : first < second
+  pub below : second < n
+  pub same : link s k second ≡ link s k first
+
+-- the name of a record that keeps the rules is one of its bucket
+pub keeps-bucket : {s : List ℕ} {k r : ℕ} → Keeps s k r → bucketOf s (nameOf s r) ≡ k
+keeps-bucket {s} {k} {r} h = record-right s k r (h .rules) .home
+
+-- its images lie inside
+pub keeps-listed : {s : List ℕ} {k r : ℕ} → Keeps s k r → imagesAt s r + 4 + 8 * images s r ≤ length s
+keeps-listed {s} {k} {r} h = list-ends _ _ 8 (and-eq-true-iff _ _ .0 (record-right s k r (h .rules) .listed) .0)
+
+-- its name is not empty
+pub keeps-named : {s : List ℕ} {k r : ℕ} → Keeps s k r → nameOf s r ≡ [] → ⊥
+keeps-named {s} {k} {r} h e = omega (arith, whole-named 255 (namePart s r) (record-right s k r (h .rules) .named) .some, ap length e)
+
+module _ {s : List ℕ} {k n x p : ℕ} (b : Breaks s k n x p) where
+  -- a record that lies inside and breaks a rule breaks one of 8 to 11
+  pub broken-inside : Inside s (link s k n) → recordFault s k (link s k n) ≡ fault x p
+  broken-inside h = sym (orElse-next noFault (recordFault s k (link s k n)) refl) ∙ rw (le-leb (link s k n + 12) (length s) h) at (b .broken)
+
+  pub broken-outside : (Inside s (link s k n) → ⊥) → fault 7 (linkField s k n) ≡ fault x p
+  broken-outside out =
+      sym (orElse-first (fault 7 (linkField s k n)) (recordFault s k (link s k n)) (λ z. omega arith))
+      ∙ rw (lt-leb (link s k n + 12) (length s) (omega arith)) at (b .broken)
+
+  -- a record that keeps the rules breaks none
+  pub broken-keeps : Keeps s k (link s k n) → ⊥
+  broken-keeps h = omega (arith, h .rules, ap (λ (f : Fault). f .number) (broken-inside (h .inside)), b .some)
+
+  pub broken-number : x ≤ 11
+  broken-number = elim (decLe (link s k n + 12) (length s)) [
+    | no out ↦ omega (arith, ap (λ (f : Fault). f .number) (broken-outside out))
+    | yes h ↦ let e = ap (λ (f : Fault). f .number) (broken-inside h) in elim (record-number s k (link s k n)) [ inl z ↦ omega arith | inr g ↦ omega arith ]
+  ]
+
+module _ {s : List ℕ} {k n : ℕ} (c : Repeat s k n) where
+  -- each step names a record that an earlier one below the repeat names
+  pub earlier : (m : ℕ) → (i : ℕ) × (i < c .second) × (link s k m ≡ link s k i)
+  unfolding link
+  earlier zero = (0, omega arith, refl)
+  earlier (suc m) =
+      let (i, l, e) = earlier m in
+      elim (ℕ-discrete (suc i) (c .second)) [
+        | yes q ↦ (c .first, c .order, ap (be 4 s) e ∙ ap (link s k) q ∙ c .same)
+        | no a ↦ (suc i, omega arith, ap (be 4 s) e)
+      ]
+
+  pub goes-on : KeepsBelow s k n → (m : ℕ) → KeepsAt s k m
+  goes-on keeps m = let (i, l, e) = earlier m in rw e (keeps i (omega arith))
+
+  pub never-breaks : {x p : ℕ} → Breaks s k n x p → ⊥
+  never-breaks b = broken-keeps b (goes-on (b .keeps) n .1)
+
+module _ {s : List ℕ} {k n : ℕ} (h : Holds s k n) where
+  pub holds-le : {m : ℕ} → Holds s k m → n ≤ m
+  holds-le {m} g = le-unless (λ l. h .keeps m l .0 (g .ends))
+
+  -- a link that is no end value, with none before it, lies before the end
+  pub before-end : {m : ℕ} → ((i : ℕ) → i < m → link s k i ≡ endValue → ⊥) → (link s k m ≡ endValue → ⊥) → m < n
+  before-end before here = lt-unless (λ e. here (rw (← e) (h .ends))) (λ l. before n l (h .ends))
+
+  pub on-chain : {m r : ℕ} → OnChain s k m r → (m < n) × Keeps s k r
+  on-chain {m} c =
+      let l = before-end (λ i g. c .before i g .0) (rw (c .named) (c .real)) in
+      (l, rw (← c .named) (h .keeps m l .1))
+
+  pub chain-on : {m : ℕ} → m < n → OnChain s k m (link s k m)
+  chain-on {m} l = record { before = λ i g. let x = h .keeps i (omega arith) in (x .0, x .1 .inside); named = refl; real = h .keeps m l .0 }
+
+  -- no record twice
+  pub once : Repeat s k n → ⊥
+  once c = goes-on c (h .keeps) n .0 (h .ends)
+
+  once-le : {i j : ℕ} → j < n → link s k j ≡ link s k i → j ≤ i
+  once-le {i} {j} l e = le-unless (λ g. once (record { first = i; second = j; order = g; below = l; same = e }))
+
+  pub one-step : {i j : ℕ} → i < n → j < n → link s k i ≡ link s k j → i ≡ j
+  one-step l g e = le-antisymm (once-le l e) (once-le g (sym e))

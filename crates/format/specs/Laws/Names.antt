@@ -1,0 +1,33 @@
+-- The comparison of names: by their bytes is by what they are.
+use Prim.Native.Nat.{ℕ}
+use mathlib.Core.Path.{_≡_, refl, sym, _∙_}
+use mathlib.Core.List.{List, [], _∷_}
+use mathlib.Core.Bool.{Bool, true, false, and-eq-true-iff, not-eq-not, false≢true}
+use borrow.Author.Tests.{eqb-true, eq-eqb}
+use lib.Dec.{eqb}
+use Rattle.format.specs.Text.{sameBytes}
+
+pub same-equal : (a b : List ℕ) → sameBytes a b ≡ true → a ≡ b
+unfolding sameBytes
+same-equal [] [] e = refl
+same-equal [] (y ∷ b) e = absurd (false≢true e)
+same-equal (x ∷ a) [] e = absurd (false≢true e)
+same-equal (x ∷ a) (y ∷ b) e = let h = and-eq-true-iff (eqb x y) (sameBytes a b) .0 e in cc (eqb-true x y (h .0), same-equal a b (h .1))
+
+pub equal-same : (a : List ℕ) → sameBytes a a ≡ true
+unfolding sameBytes
+equal-same [] = refl
+equal-same (x ∷ a) = rw (eq-eqb x x refl) (equal-same a)
+
+pub unequal-other : (a b : List ℕ) → (a ≡ b → ⊥) → sameBytes a b ≡ false
+unequal-other a b h = not-eq-not {b = false} .0 (λ e. h (same-equal a b e))
+
+pub other-unequal : (a b : List ℕ) → sameBytes a b ≡ false → a ≡ b → ⊥
+other-unequal a b e q = false≢true (sym e ∙ rw q (equal-same b))
+
+pub equal-or-not : (a b : List ℕ) → Dec (a ≡ b)
+equal-or-not a b = go (sameBytes a b) refl
+  where
+    go : (t : Bool) → sameBytes a b ≡ t → Dec (a ≡ b)
+    go true e = yes (same-equal a b e)
+    go false e = no (other-unequal a b e)

@@ -1,0 +1,76 @@
+-- The numbers of the rules on paths and records, and what a record that keeps the rules tells.
+use Prim.Native.Nat.{ℕ, zero, suc, _+_, _≤_}
+use mathlib.Core.Path.{_≡_, refl}
+use mathlib.Core.Logic.{_⊎_, inl, inr}
+use mathlib.Core.List.{List}
+use mathlib.Core.Bool.{Bool, true, not}
+use native.Mathlib.Omega.{arith}
+use borrow.Author.Tests.{eqb-true, not-false}
+use lib.Dec.{lit≤}
+use Rattle.format.specs.Fault.{given, _orElse_}
+use Rattle.format.specs.Header.{directories, headerFault, pathRight, pathFault, pathsFault, tablesFault}
+use Rattle.format.specs.Record.{nameOf, bucketOf, recordFault, imagesFault, nameRight, bucketRight, imagesRight, imageRight}
+use Rattle.format.specs.declared.Fault.{Fault}
+use Rattle.format.specs.Laws.Faults.{given-none, given-most, given-all, orElse-first, orElse-next, orElse-none, orElse-most, orElse-all}
+use Rattle.format.specs.Laws.Header.{header-number}
+
+-- what rules 8 to 10 ask of a record, kept
+pub record RecordRight (s : List ℕ) (k r : ℕ) : Type 0 where
+  pub named : nameRight s r ≡ true
+  pub home : bucketOf s (nameOf s r) ≡ k
+  pub listed : imagesRight s r ≡ true
+
+-- the numbers of rules 8 to 11
+abbrev pub OfRecord : ℕ → Type 0
+OfRecord n = (n ≡ 0) ⊎ ((8 ≤ n) × (n ≤ 11))
+
+-- one of them, and what is judged after it
+rule : (b : Bool) (n p : ℕ) (y : Fault) → OfRecord n → OfRecord (y .number) → OfRecord ((given b n p orElse y) .number)
+rule b n p y h g = orElse-all OfRecord (given b n p) y (given-all OfRecord b n p (inl refl) h) g
+
+module _ (s : List ℕ) where
+  paths-number : (n i : ℕ) → pathsFault n s i .number ≤ 6
+  unfolding pathsFault pathFault
+  paths-number zero i = lit≤ tt
+  paths-number (suc n) i = orElse-most 6 _ _ (given-most 6 (not (pathRight s i)) 6 _ (lit≤ tt)) (paths-number n (suc i))
+
+  pub tables-number : tablesFault s .number ≤ 6
+  unfolding tablesFault
+  tables-number = orElse-most 6 _ _ (omega (arith, header-number s)) (paths-number (directories s) 0)
+
+  pub tables-header : (headerFault s .number ≡ 0 → ⊥) → tablesFault s ≡ headerFault s
+  unfolding tablesFault
+  tables-header h = orElse-first _ _ h
+
+  pub tables-paths : headerFault s .number ≡ 0 → tablesFault s ≡ pathsFault (directories s) s 0
+  unfolding tablesFault
+  tables-paths h = orElse-next _ _ h
+
+  pub tables-right : tablesFault s .number ≡ 0 → headerFault s .number ≡ 0
+  unfolding tablesFault
+  tables-right e = orElse-none _ _ e .0
+
+  images-number : (m at : ℕ) → OfRecord (imagesFault m s at .number)
+  unfolding imagesFault
+  images-number zero at = inl refl
+  images-number (suc m) at = rule (not (imageRight s at)) _ _ _ (inr (lit≤ tt, lit≤ tt)) (images-number m (at + 8))
+
+  module _ (k r : ℕ) where
+    pub record-number : OfRecord (recordFault s k r .number)
+    unfolding recordFault
+    record-number =
+        rule (not (nameRight s r)) _ _ _ (inr (lit≤ tt, lit≤ tt))
+        (rule (not (bucketRight s k r)) _ _ _ (inr (lit≤ tt, lit≤ tt))
+        (rule (not (imagesRight s r)) _ _ _ (inr (lit≤ tt, lit≤ tt)) (images-number _ _)))
+
+    pub record-right : recordFault s k r .number ≡ 0 → RecordRight s k r
+    unfolding recordFault
+    record-right e =
+        let after8 = orElse-none _ _ e in
+        let after9 = orElse-none _ _ (after8 .1) in
+        let after10 = orElse-none _ _ (after9 .1) in
+        record {
+          named = not-false _ (given-none _ _ _ (after8 .0));
+          home = eqb-true _ _ (not-false _ (given-none _ _ _ (after9 .0)));
+          listed = not-false _ (given-none _ _ _ (after10 .0));
+        }

@@ -1,0 +1,111 @@
+-- Laws of strings: where one stops and how it goes on, and what each answer of `text` says of it.
+use Prim.Native.Nat.{ℕ, zero, suc, _+_, _≤_, _<_, zero-le, suc-le-suc}
+use mathlib.Core.Path.{_≡_, refl, ap, sym, _∙_}
+use mathlib.Core.List.{List, [], _∷_}
+use mathlib.Core.Bool.{Bool, true, false, _&&_, false≢true, and-eq-true-iff}
+use native.Mathlib.Numerals.{add-one}
+use native.Mathlib.Omega.{arith}
+use borrow.Author.Tests.{lt-ltb, le-ltb, le-leb, lt-leb, ne-eqb, ltb-true, ltb-false, leb-true, leb-false, eqb-true, eqb-false}
+use lib.ListN.{length, take, drop, getD, List·getD-eq-default}
+use lib.Seq.{take-length}
+use lib.Dec.{ltb, leb, eqb}
+use Rattle.format.specs.Choice.{if_then_else_}
+use Rattle.format.specs.Text.{string, text, isWhole, allowed}
+use Rattle.format.specs.declared.Text.{Text}
+use Rattle.format.specs.declared.Text.the-variants.{Whole, Empty, Long, Cut}
+
+-- `getD` counts a byte past the end as 0
+pub string-stops : (t : List ℕ) (i : ℕ) → getD t i 0 ≡ 0 → string (drop i t) ≡ []
+unfolding string
+string-stops [] zero e = refl
+string-stops [] (suc i) e = refl
+string-stops (zero ∷ t) zero e = refl
+string-stops (suc b ∷ t) zero e = absurd (omega arith)
+string-stops (b ∷ t) (suc i) e = string-stops t i e
+
+pub string-ends : (t : List ℕ) (i : ℕ) → length t ≤ i → string (drop i t) ≡ []
+string-ends t i h = string-stops t i (List·getD-eq-default t 0 h)
+
+pub string-goes-on : (t : List ℕ) (i : ℕ) → (getD t i 0 ≡ 0 → ⊥) → string (drop i t) ≡ getD t i 0 ∷ string (drop (i + 1) t)
+unfolding string
+string-goes-on [] i nz = absurd (nz refl)
+string-goes-on (zero ∷ t) zero nz = absurd (nz refl)
+string-goes-on (suc b ∷ t) zero nz = refl
+string-goes-on (b ∷ t) (suc i) nz = rw add-one (rw add-one at (string-goes-on t i nz))
+
+pub string-fits : (t : List ℕ) → length (string t) ≤ length t
+unfolding string
+string-fits [] = zero-le
+string-fits (zero ∷ t) = zero-le
+string-fits (suc b ∷ t) = suc-le-suc (string-fits t)
+
+pub string-front : (t : List ℕ) → take (length (string t)) t ≡ string t
+unfolding string
+string-front [] = refl
+string-front (zero ∷ t) = refl
+string-front (suc b ∷ t) = ap (λ s. suc b ∷ s) (string-front t)
+
+-- what a whole string is: it has bytes, no more than the limit, and a zero byte stands after them
+pub record Named (limit : ℕ) (t : List ℕ) : Type 0 where
+  pub some : 0 < length (string t)
+  pub within : length (string t) ≤ limit
+  pub ended : length (string t) < length t
+
+-- each answer of `text`, with what it says of the string
+pub data Judged (limit : ℕ) (t : List ℕ) : Text → Type 0 where
+  long : limit < length (string t) → Judged limit t Long
+  cut : length (string t) ≤ limit → length t ≤ length (string t) → Judged limit t Cut
+  empty : 0 < length t → length (string t) ≡ 0 → Judged limit t Empty
+  whole : {n : ℕ} → n ≡ length (string t) → Named limit t → Judged limit t (Whole n)
+
+-- what holds of the string gives the answer
+pub judgement : (limit : ℕ) (t : List ℕ) {r : Text} → Judged limit t r → r ≡ text limit t
+unfolding text
+judgement limit t (long h) = simp (lt-ltb _ _ h)
+judgement limit t (cut h g) = simp (le-ltb _ _ h, le-leb _ _ g)
+judgement limit t (empty h e) = simp (e, le-ltb limit 0 zero-le, lt-leb _ _ h)
+judgement limit t (whole e h) =
+    let has-bytes : length (string t) ≡ 0 → ⊥ = λ z. omega arith in
+    simp (e, le-ltb _ _ (h .within), lt-leb _ _ (h .ended), ne-eqb _ _ has-bytes)
+
+-- and the answer says what holds of it
+pub judged : (limit : ℕ) (t : List ℕ) → Judged limit t (text limit t)
+unfolding text
+judged limit t = go (ltb limit (length (string t))) refl (leb (length t) (length (string t))) refl (eqb (length (string t)) 0) refl
+  where
+    go : (a : Bool) → ltb limit (length (string t)) ≡ a → (b : Bool) → leb (length t) (length (string t)) ≡ b → (c : Bool) → eqb (length (string t)) 0 ≡ c
+        → Judged limit t (if a then Long else if b then Cut else if c then Empty else Whole (length (string t)))
+    go true p b q c s = long (ltb-true _ _ p)
+    go false p true q c s = cut (ltb-false _ _ p) (leb-true _ _ q)
+    go false p false q true s = empty (omega (arith, leb-false, eqb-true)) (eqb-true _ _ s)
+    go false p false q false s = whole refl (record { some = omega (arith, eqb-false); within = ltb-false _ _ p; ended = leb-false _ _ q })
+
+pub whole-length : (limit : ℕ) (t : List ℕ) (n : ℕ) → text limit t ≡ Whole n → n ≡ length (string t)
+whole-length limit t n e = go (judged limit t) e
+  where
+    go : {r : Text} → Judged limit t r → r ≡ Whole n → n ≡ length (string t)
+    go (long h) q = cc
+    go (cut h g) q = cc
+    go (empty h g) q = cc
+    go (whole g h) q = cc
+
+pub whole-is-whole : (limit : ℕ) (t : List ℕ) (n : ℕ) → text limit t ≡ Whole n → isWhole (text limit t) ≡ true
+unfolding isWhole
+whole-is-whole limit t n e = rw e
+
+pub whole-named : (limit : ℕ) (t : List ℕ) → isWhole (text limit t) ≡ true → Named limit t
+unfolding isWhole
+whole-named limit t e = go (judged limit t) e
+  where
+    go : {r : Text} → Judged limit t r → isWhole r ≡ true → Named limit t
+    go (long h) q = absurd (false≢true q)
+    go (cut h g) q = absurd (false≢true q)
+    go (empty h g) q = absurd (false≢true q)
+    go (whole g h) q = h
+
+-- a name that may be asked for is its own string: no zero byte cuts it
+pub allowed-string : (name : List ℕ) → allowed name ≡ true → string name ≡ name
+unfolding allowed
+allowed-string name e =
+    let same : length (string name) ≡ length name = eqb-true _ _ (and-eq-true-iff (ltb 0 (length name) && leb (length name) 255) _ .0 e .1) in
+    sym (string-front name) ∙ rw same (take-length name)

@@ -1,0 +1,12 @@
+-- Documents 000 and 01 as definitions: what a reader of the contracts has to believe.
+pub mod Choice
+pub mod Number
+pub mod Fault
+pub mod Text
+pub mod Header
+pub mod Record
+pub mod Chain
+pub mod Call
+pub mod Words
+pub mod Farm
+pub mod Laws

@@ -1,0 +1,65 @@
+-- An icon record and its images: rules 8 to 11.
+use Prim.Native.Nat.{ℕ, zero, suc, _+_, _*_, _%_}
+use mathlib.Core.List.{List, [], _∷_}
+use mathlib.Core.Bool.{Bool, not, _&&_}
+use lib.ListN.{drop}
+use lib.Dec.{ltb, leb, eqb}
+use Rattle.format.specs.Choice.{if_then_else_}
+use Rattle.format.specs.Number.{be, listInside}
+use Rattle.format.specs.Fault.{noFault, given, _orElse_}
+use Rattle.format.specs.Text.{string, text, isWhole, hash}
+use Rattle.format.specs.Header.{buckets, directories}
+use Rattle.format.specs.declared.Fault.{Fault}
+
+-- the buffer from the name of record r on, and the name
+abbrev pub namePart : List ℕ → ℕ → List ℕ
+namePart s r = drop (be 4 s (r + 4)) s
+
+abbrev pub nameOf : List ℕ → ℕ → List ℕ
+nameOf s r = string (namePart s r)
+
+-- the bucket that a name's hash gives
+abbrev pub bucketOf : List ℕ → List ℕ → ℕ
+bucketOf s name = hash name % buckets s
+
+-- where the image list of record r stands, and its count
+abbrev pub imagesAt : List ℕ → ℕ → ℕ
+imagesAt s r = be 4 s (r + 8)
+
+abbrev pub images : List ℕ → ℕ → ℕ
+images s r = be 4 s (imagesAt s r)
+
+-- with no directories each index is 0xFFFF, and otherwise it is below their count
+abbrev pub indexRight : ℕ → ℕ → Bool
+indexRight n i = if eqb n 0 then eqb i 0xFFFF else ltb i n
+
+-- what rules 8 to 11 ask: of the record r on the chain of bucket k, and of the image at `at`
+abbrev pub nameRight : List ℕ → ℕ → Bool
+nameRight s r = isWhole (text 255 (namePart s r))
+
+abbrev pub bucketRight : List ℕ → ℕ → ℕ → Bool
+bucketRight s k r = eqb (bucketOf s (nameOf s r)) k
+
+abbrev pub imagesRight : List ℕ → ℕ → Bool
+imagesRight s r = listInside s (imagesAt s r) 8 && leb (images s r) 1024
+
+abbrev pub imageRight : List ℕ → ℕ → Bool
+imageRight s at = indexRight (directories s) (be 2 s at) && leb (be 2 s (at + 2)) 15
+
+-- rule 11 on m images from `at` on
+unfoldable pub imagesFault : ℕ → List ℕ → ℕ → Fault
+imagesFault zero s at = noFault
+imagesFault (suc m) s at = given (not (imageRight s at)) 11 at orElse imagesFault m s (at + 8)
+
+-- rules 8 to 11 on the record r, on the chain of bucket k
+unfoldable pub recordFault : List ℕ → ℕ → ℕ → Fault
+recordFault s k r =
+    given (not (nameRight s r)) 8 (r + 4)
+    orElse given (not (bucketRight s k r)) 9 (r + 4)
+    orElse given (not (imagesRight s r)) 10 (r + 8)
+    orElse imagesFault (images s r) s (imagesAt s r + 4)
+
+-- the two words of each of m images from `at` on
+unfoldable pub imageWords : ℕ → List ℕ → ℕ → List ℕ
+imageWords zero s at = []
+imageWords (suc m) s at = (be 2 s at * 65536 + be 2 s (at + 2)) ∷ (be 4 s (at + 4) ∷ imageWords m s (at + 8))

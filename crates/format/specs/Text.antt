@@ -1,0 +1,48 @@
+-- Strings, and the hash of a name. A string is given by the part of the buffer from its offset on.
+use Prim.Native.Nat.{ℕ, zero, suc, _+_, _*_, _%_, _^_}
+use mathlib.Core.List.{List, [], _∷_}
+use mathlib.Core.Bool.{Bool, true, false, _&&_}
+use lib.ListN.{length}
+use lib.Dec.{ltb, leb, eqb}
+use Rattle.format.specs.Choice.{if_then_else_}
+use Rattle.format.specs.declared.Text.{Text}
+use Rattle.format.specs.declared.Text.the-variants.{Whole, Empty, Long, Cut}
+
+-- the bytes before the first zero byte
+unfoldable pub string : List ℕ → List ℕ
+string [] = []
+string (zero ∷ t) = []
+string (suc b ∷ t) = suc b ∷ string t
+
+-- what the string at the front of t is, within the limit: too long if more than the limit's bytes come before a zero byte, cut off if
+-- none comes at all
+unfoldable pub text : ℕ → List ℕ → Text
+text limit t =
+    let n = length (string t) in
+    if ltb limit n then Long else if leb (length t) n then Cut else if eqb n 0 then Empty else Whole n
+
+unfoldable pub isWhole : Text → Bool
+isWhole (Whole n) = true
+isWhole Empty = false
+isWhole Long = false
+isWhole Cut = false
+
+-- the same length and the same bytes
+unfoldable pub sameBytes : List ℕ → List ℕ → Bool
+sameBytes [] [] = true
+sameBytes [] (b ∷ t) = false
+sameBytes (a ∷ s) [] = false
+sameBytes (a ∷ s) (b ∷ t) = eqb a b && sameBytes s t
+
+-- the hash of a name, from its first byte on: 31 times the hash so far plus the byte, modulo 2^32
+unfoldable pub hashFrom : ℕ → List ℕ → ℕ
+hashFrom h [] = h
+hashFrom h (b ∷ t) = hashFrom ((31 * h + b) % 2 ^ 32) t
+
+unfoldable pub hash : List ℕ → ℕ
+hash [] = 0
+hash (b ∷ t) = hashFrom b t
+
+-- a name that may be asked for has 1 to 255 bytes, none of them zero
+unfoldable pub allowed : List ℕ → Bool
+allowed name = ltb 0 (length name) && leb (length name) 255 && eqb (length (string name)) (length name)

@@ -1,0 +1,63 @@
+// The types that the calls answer with. What they mean is in specs/.
+
+// What the string at the front of a slice is, within a limit.
+pub enum Text {
+    // Ended by a zero byte after this many bytes, at least 1 and at most the limit.
+    Whole(usize),
+    Empty,
+    // The limit's bytes and one more lie inside, without a zero byte.
+    Long,
+    // The buffer ends before a zero byte, within the limit.
+    Cut,
+}
+
+// Which rule is broken, and where; number 0 where none is.
+pub struct Fault {
+    pub number: u32,
+    pub place: usize,
+}
+
+// How a walk along a chain ends.
+pub enum Ending {
+    // The end value.
+    Ended,
+    // A record that bears the wanted name.
+    Met(usize),
+    // A record breaks a rule: the rule's number and its place.
+    Broken(u32, usize),
+    // As many records opened as no chain that ends can have.
+    Endless,
+}
+
+pub struct Walk {
+    pub ending: Ending,
+    pub opened: usize,
+}
+
+pub struct CheckAnswer {
+    pub number: u32,
+    pub place: usize,
+    pub directories: usize,
+    pub icons: usize,
+    pub opened: usize,
+}
+
+pub struct LookupAnswer {
+    pub number: u32,
+    pub place: usize,
+    pub images: usize,
+    pub opened: usize,
+}
+
+pub struct DirectoryAnswer {
+    pub number: u32,
+    pub place: usize,
+}
+
+// The number call's answer, and where the path's part stands in the buffer; with a refusal its start and its length are 0.
+pub struct DirectoryPart {
+    pub number: u32,
+    pub place: usize,
+    pub start: usize,
+    pub length: usize,
+}
