@@ -1,0 +1,54 @@
+-- `tables::list_inside` meets its contract: at each `return` the test that led there says which half of `listInside` decides. Nothing
+-- wraps, since the offset and the count are below 2^32 and an entry has at most 8 bytes.
+use borrow.Author.Needs.{needs}
+use Prim.Native.Nat.{_+_, _*_, _^_, _≤_, _<_}
+use native.Mathlib.Nat.{mul-le-mul}
+use native.Mathlib.Omega.{arith}
+use borrow.Author.Tests.{le-leb, lt-leb}
+use lib.ListN.{length}
+use denote.Ref.{now}
+use Rattle.tables.proofs.list_inside.Statement.{statement}
+use Rattle.tables.proofs.list_inside.Tie as tie
+
+entries-fit : (c : tie.After-u32-at) → c .before .before .before .args .size * c .u32-at .result ≤ 2 ^ 35
+entries-fit c = mul-le-mul {n₂ = 8} {m₂ = 2 ^ 32} (c .before .before .before .pre .1) (omega arith)
+
+add-if1 : tie.Need-add-if1
+add-if1 c = search needs
+
+returns : tie.Need-returns
+returns c =
+    let a = c .before .before .args in
+    let outside : length (now (a .cache)) < a .at + 4 = omega arith in
+    simp (lt-leb _ _ outside)
+
+u32-at-requires : tie.Need-u32-at-requires
+u32-at-requires c κs = search needs
+
+cast-count : tie.Need-cast-count
+cast-count c = search needs
+
+mul-result : tie.Need-mul-result
+mul-result c = omega (arith, entries-fit c)
+
+add-result : tie.Need-add-result
+add-result c = omega (arith, entries-fit c)
+
+add-result-2 : tie.Need-add-result-2
+add-result-2 c = omega (arith, entries-fit c)
+
+returns-2 : tie.Need-returns-2
+returns-2 c = simp (le-leb _ _ (c .before .if1 .left), c .u32-at .ensures)
+
+pub list-inside-spec : {M : Type 1} → statement M
+list-inside-spec =
+    tie.close
+    (tie.spec
+    add-if1
+    returns
+    u32-at-requires
+    cast-count
+    mul-result
+    add-result
+    add-result-2
+    returns-2)

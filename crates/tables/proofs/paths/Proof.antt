@@ -1,0 +1,72 @@
+-- `tables::paths` meets its contract. The loop's invariant: the judgement of the paths that are left is that of all. Each turn is one of the laws
+-- `paths-stop` and `paths-go-on`.
+use borrow.Author.Needs.{needs}
+use Prim.Native.Nat.{_-_, _≤_}
+use mathlib.Core.Path.{_≡_, _∙_, sym, ap}
+use native.Mathlib.Nat.{sub-zero}
+use native.Mathlib.Omega.{arith}
+use denote.Ref.{now}
+use Rattle.format.specs.Header.{directories, pathFault, pathsFault}
+use Rattle.format.specs.Laws.Paths.{paths-end, paths-stop, paths-go-on}
+use Rattle.tables.specs.declared.JudgedPath.{JudgedPath}
+use Rattle.tables.proofs.paths.Statement.{statement}
+use Rattle.tables.proofs.paths.Tie as tie
+
+abbrev Inv-loop : tie.InvT-loop
+Inv-loop cache t n i₀ i = (i ≤ directories cache) × (pathsFault (directories cache - i) cache i ≡ pathsFault (directories cache) cache 0)
+
+abbrev μ-loop : tie.MeasureT-loop
+μ-loop cache t n i₀ i = n - i
+
+count-is : (c : tie.Start Inv-loop μ-loop) → c .args .t .directories ≡ directories (now (c .args .cache))
+count-is c = ap (λ t. t .directories) (c .pre .tables)
+
+loop-holds : tie.Need-loop-holds Inv-loop μ-loop
+loop-holds c = (search needs, rw sub-zero)
+
+path-requires : tie.Need-path-requires Inv-loop μ-loop
+path-requires c κs = (c .before .before .before .pre, omega (arith, count-is (c .before .before .before)))
+
+-- the fault that a turn judges is that of the definition
+fault-is : (c : tie.After-path Inv-loop μ-loop)
+    → let l = c .before .before in c .path .result .fault ≡ pathFault (now (l .before .before .args .cache)) (l .loop .i)
+fault-is c = ap (λ (p : JudgedPath). p .fault) (c .path .ensures)
+
+returns : tie.Need-returns Inv-loop μ-loop
+returns c =
+    let judged = fault-is (c .before .before .before) in
+    let loop = c .before .before .before .before .before in
+    judged
+    ∙ sym (paths-stop _ _ _ (omega (arith, count-is (loop .before .before), c .before .before .before .before .loop-test)) (rw judged at (c .if1 .taken)))
+    ∙ loop .loop .inv .1
+
+add-i : tie.Need-add-i Inv-loop μ-loop
+add-i c = omega arith
+
+loop-less : tie.Need-loop-less Inv-loop μ-loop
+loop-less c = omega arith
+
+loop-again : tie.Need-loop-again Inv-loop μ-loop
+loop-again c =
+    let judged = fault-is (c .before .before .before) in
+    let test = c .before .before .before .before in
+    let loop = test .before in
+    let count = count-is (loop .before .before) in
+    (omega (arith, test .loop-test), sym (paths-go-on _ _ _ _ (omega (arith, test .loop-test)) (rw judged at (c .if1 .left))) ∙ loop .loop .inv .1)
+
+returns-2 : tie.Need-returns-2 Inv-loop μ-loop
+returns-2 c = sym (paths-end _ _ _ (omega (arith, count-is (c .before .before .before)))) ∙ c .before .loop .inv .1
+
+pub paths-spec : {M : Type 1} → statement M
+paths-spec =
+    tie.close
+    (tie.spec
+    Inv-loop
+    μ-loop
+    loop-holds
+    path-requires
+    returns
+    add-i
+    loop-less
+    loop-again
+    returns-2)

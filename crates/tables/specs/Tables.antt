@@ -1,0 +1,49 @@
+-- Where the two tables of a cache stand and how many entries they have, and the fields of their entries.
+use Prim.Native.Nat.{ℕ, suc, _+_, _*_}
+use mathlib.Core.Path.{_≡_}
+use mathlib.Core.List.{List}
+use lib.ListN.{length}
+use Rattle.format.specs.Choice.{if_then_else_}
+use Rattle.format.specs.Number.{be, listInside}
+use Rattle.format.specs.Fault.{fault, noFault, ifKept}
+use Rattle.format.specs.Header.{headerFault, hashAt, buckets, directoriesAt, directories, pathField, pathOf, pathFault}
+use Rattle.tables.specs.declared.Tables.{Tables}
+use Rattle.tables.specs.declared.JudgedPath.{JudgedPath}
+
+-- the count of the list whose offset stands at f, or another number where the list does not lie inside
+abbrev pub listCount : List ℕ → ℕ → ℕ → ℕ
+listCount s f other = if listInside s (be 4 s f) 4 then be 4 s (be 4 s f) else other
+
+abbrev pub tablesOf : List ℕ → Tables
+tablesOf s = record { «hash_at» = hashAt s; buckets = buckets s; «directories_at» = directoriesAt s; directories = directories s }
+
+-- the header breaks no rule, and t is what it says of the tables
+pub record Right (s : List ℕ) (t : Tables) : Type 0 where
+  pub header : headerFault s .number ≡ 0
+  pub tables : t ≡ tablesOf s
+
+-- the field of bucket k, and that of the path of directory i
+abbrev pub bucketFieldOf : Tables → ℕ → ℕ
+bucketFieldOf t k = t .«hash_at» + 4 + 4 * k
+
+abbrev pub pathFieldOf : Tables → ℕ → ℕ
+pathFieldOf t i = t .«directories_at» + 4 + 4 * i
+
+-- what is judged of the path of directory i, and where it stands if it keeps the rule
+abbrev pub pathJudged : List ℕ → ℕ → JudgedPath
+pathJudged s i = record {
+  fault = pathFault s i;
+  start = ifKept (pathFault s i) (be 4 s (pathField s i));
+  length = ifKept (pathFault s i) (length (pathOf s i));
+}
+
+-- a path that breaks rule x, named at p
+abbrev pub pathBroken : ℕ → ℕ → JudgedPath
+pathBroken x p = record { fault = fault x p; start = 0; length = 0 }
+
+pub judged-broken : (s : List ℕ) (i : ℕ) {x p : ℕ} → pathFault s i ≡ fault (suc x) p → pathJudged s i ≡ pathBroken (suc x) p
+judged-broken s i e = rw e
+
+pub judged-kept : (s : List ℕ) (i : ℕ) → pathFault s i ≡ noFault
+    → pathJudged s i ≡ record { fault = noFault; start = be 4 s (pathField s i); length = length (pathOf s i) }
+judged-kept s i e = rw e
