@@ -1,0 +1,155 @@
+// An icon record of a cache: rules 8 to 11, whether it bears a name, and the words of its images.
+ghost use mathlib.Core.Path.{_≡_};
+ghost use mathlib.Core.List.{_++_};
+ghost use mathlib.Core.Bool.{_&&_};
+ghost use Prim.Native.Nat.{_+_, _*_, _^_, _≤_, _<_, _%_};
+ghost use lib.ListN.{length, drop};
+ghost use lib.Dec.{leb};
+ghost use Rattle.format.specs.Number.{be, listInside};
+ghost use Rattle.format.specs.Text.{string, sameBytes, hash};
+ghost use Rattle.format.specs.Header.{directories};
+ghost use Rattle.format.specs.Record.{nameOf, indexRight, imageRight, imagesRight, imagesFault, recordFault, imageWords};
+ghost use Rattle.tables.specs.Tables.{Right};
+use bigendian::u16_at;
+use bigendian::u32_at;
+use format::Fault;
+use tables::Tables;
+use tables::list_inside;
+
+// Whether `index` is one that an image may have where there are `n` directories.
+fn index_right(n: usize, index: usize) -> bool
+    ensures { λ r. ⌜ r ≡ indexRight n index ⌝ }
+{
+    if n == 0 { index == 0xFFFF } else { index < n }
+}
+
+// Rule 11 on the image at `at`, where there are `n` directories.
+fn image_right(cache: &[u8], n: usize, at: usize) -> bool
+    requires { ⌜ (n ≡ directories (now cache)) × (at + 8 ≤ length (now cache)) ⌝ }
+    ensures { λ r. ⌜ r ≡ imageRight (now (cache .entry)) at ⌝ }
+{
+    let index = u16_at(cache, at) as usize;
+    if index_right(n, index) {
+        u16_at(cache, at + 2) <= 15
+    } else {
+        false
+    }
+}
+
+// The first of `m` images from `at` on that breaks rule 11, where there are `n` directories.
+fn images(cache: &[u8], n: usize, m: usize, at: usize) -> Fault
+    requires { ⌜ (n ≡ directories (now cache)) × (at + 8 * m ≤ length (now cache)) ⌝ }
+    ensures { λ r. ⌜ r ≡ imagesFault m (now (cache .entry)) at ⌝ }
+{
+    let mut left = m;
+    let mut here = at;
+    while 0 < left {
+        if !image_right(cache, n, here) {
+            return Fault {
+                number: 11,
+                place: here,
+            };
+        }
+        here += 8;
+        left -= 1;
+    }
+    Fault {
+        number: 0,
+        place: 0,
+    }
+}
+
+// Whether the image list at `at` lies inside and is not too long.
+fn list_right(cache: &[u8], at: usize) -> bool
+    requires { ⌜ at < 2 ^ 32 ⌝ }
+    ensures { λ r. ⌜ r ≡ (listInside (now (cache .entry)) at 8 && leb (be 4 (now (cache .entry)) at) 1024) ⌝ }
+{
+    if list_inside(cache, at, 8) {
+        u32_at(cache, at) <= 1024
+    } else {
+        false
+    }
+}
+
+// The part of the cache from the name of the record at `offset` on.
+fn name_part(cache: &[u8], offset: usize) -> &[u8]
+    requires { ⌜ offset + 12 ≤ length (now cache) ⌝ }
+    ensures { λ r. ⌜ now r ≡ drop (be 4 (now (cache .entry)) (offset + 4)) (now (cache .entry)) ⌝ }
+{
+    let at = u32_at(cache, offset + 4) as usize;
+    text::from(cache, at)
+}
+
+// The bucket of the string at the front of `part`, of `buckets` buckets.
+pub fn bucket_of(part: &[u8], buckets: usize) -> usize
+    requires { ⌜ 0 < buckets ⌝ }
+    ensures { λ r. ⌜ r ≡ hash (string (now (part .entry))) % buckets ⌝ }
+{
+    text::hash(part) as usize % buckets
+}
+
+// The first of the rules 8 to 11 that the record at `offset` breaks, on the chain of `bucket`.
+pub fn judge(cache: &[u8], t: Tables, bucket: usize, offset: usize) -> Fault
+    requires { ⌜ Right (now cache) t ⌝ }
+    requires { ⌜ offset + 12 ≤ length (now cache) ⌝ }
+    ensures { λ r. ⌜ r ≡ recordFault (now (cache .entry)) bucket offset ⌝ }
+{
+    let name = name_part(cache, offset);
+    if !text::whole(name, 255) {
+        return Fault {
+            number: 8,
+            place: offset + 4,
+        };
+    }
+    let buckets = t.buckets;
+    if bucket_of(name, buckets) != bucket {
+        return Fault {
+            number: 9,
+            place: offset + 4,
+        };
+    }
+    let at = u32_at(cache, offset + 8) as usize;
+    if !list_right(cache, at) {
+        return Fault {
+            number: 10,
+            place: offset + 8,
+        };
+    }
+    let m = u32_at(cache, at) as usize;
+    let n = t.directories;
+    images(cache, n, m, at + 4)
+}
+
+// Whether the record at `offset` bears `name`.
+pub fn bears(cache: &[u8], offset: usize, name: &[u8]) -> bool
+    requires { ⌜ offset + 12 ≤ length (now cache) ⌝ }
+    ensures { λ r. ⌜ r ≡ sameBytes (nameOf (now (cache .entry)) offset) (now (name .entry)) ⌝ }
+{
+    let part = name_part(cache, offset);
+    text::same(part, name)
+}
+
+// The first word of the image at `at`: its index times 65,536 plus its flags.
+fn first_word(cache: &[u8], at: usize) -> u32
+    requires { ⌜ at + 8 ≤ length (now cache) ⌝ }
+    ensures { λ r. ⌜ r ≡ be 2 (now (cache .entry)) at * 65536 + be 2 (now (cache .entry)) (at + 2) ⌝ }
+{
+    let index = u16_at(cache, at) as u32;
+    let flags = u16_at(cache, at + 2) as u32;
+    index * 65536 + flags
+}
+
+// Puts the two words of each of `m` images from `at` on into `words`, from the last image to the first, and leaves the words beyond as
+// they were.
+pub fn write_images(cache: &[u8], at: usize, m: usize, words: &mut [u32])
+    requires { ⌜ (at + 8 * m ≤ length (now cache)) × (2 * m ≤ length (now words)) ⌝ }
+    ensures { λ r. ⌜ now (words .exit) ≡ imageWords m (now (cache .entry)) at ++ drop (2 * m) (now (words .entry)) ⌝ }
+{
+    let mut i = m;
+    while 0 < i {
+        i -= 1;
+        let image = at + 8 * i;
+        words[2 * i] = first_word(cache, image);
+        words[2 * i + 1] = u32_at(cache, image + 4);
+    }
+}
