@@ -1,0 +1,67 @@
+-- `icon_cache::directory_part` meets its contract: the header, the index and the path are judged in this order, one law for each
+-- (`directory-header`, `directory-beyond`, `directory-path`).
+use mathlib.Core.Path.{_≡_, ap, sym, _∙_}
+use native.Mathlib.Omega.{arith}
+use borrow.Author.Needs.{needs}
+use denote.Ref.{now}
+use Rattle.format.specs.Header.{directories, headerFault}
+use Rattle.format.specs.Laws.Directory.{directory-header, directory-beyond, directory-path, part-refused, part-judged}
+use Rattle.tables.specs.Tables.{Right}
+use Rattle.tables.specs.declared.Tables.{Tables}
+use Rattle.icon_cache.proofs.directory_part.Statement.{statement}
+use Rattle.icon_cache.proofs.directory_part.Tie as tie
+
+header-requires : tie.Need-header-requires
+header-requires c κs = search needs
+
+header-kept : (c : tie.Else1) → headerFault (now (c .before .before .before .before .args .cache)) .number ≡ 0
+header-kept c = rw (c .before .before .header .ensures) at (c .if1 .left)
+
+right : (c : tie.After-read) → Right (now (c .before .before .before .before .before .args .cache)) (c .read .result)
+right c = record { header = header-kept (c .before); tables = c .read .ensures }
+
+counted : (c : tie.After-read) → c .read .result .directories ≡ directories (now (c .before .before .before .before .before .args .cache))
+counted c = ap (λ (t : Tables). t .directories) (c .read .ensures)
+
+no-part-requires : tie.Need-no-part-requires
+no-part-requires c κs = search needs
+
+returns : tie.Need-returns
+returns c =
+    let hdr = c .before .before .before .header in
+    let broken = directory-header _ _ (rw (hdr .ensures) at (c .before .if1 .taken)) ∙ sym (hdr .ensures) in
+    c .no-part .ensures ∙ sym (part-refused _ _ broken (c .before .if1 .taken))
+
+read-requires : tie.Need-read-requires
+read-requires c κs = header-kept c
+
+no-part-requires-2 : tie.Need-no-part-requires-2
+no-part-requires-2 c κs = search needs
+
+returns-2 : tie.Need-returns-2
+returns-2 c =
+    let tabled = c .before .before .before in
+    let beyond = directory-beyond _ _ (header-kept (tabled .before)) (rw (counted tabled) at (c .before .if2 .taken)) in
+    c .no-part2 .ensures ∙ sym (part-refused _ _ beyond (λ z. omega arith))
+
+path-requires : tie.Need-path-requires
+path-requires c κs = (right (c .before .before), rw (counted (c .before .before)) at (c .if2 .left))
+
+returns-3 : tie.Need-returns-3
+returns-3 c =
+    let tabled = c .before .before .before .before in
+    let judged = directory-path _ _ (header-kept (tabled .before)) (rw (counted tabled) at (c .before .before .if2 .left)) in
+    rw (c .before .path .ensures) (sym (part-judged _ _ judged))
+
+pub directory-part-spec : {M : Type 1} → statement M
+directory-part-spec =
+    tie.close
+    (tie.spec
+    header-requires
+    no-part-requires
+    returns
+    read-requires
+    no-part-requires-2
+    returns-2
+    path-requires
+    returns-3)

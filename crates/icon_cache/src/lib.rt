@@ -1,0 +1,240 @@
+// The calls of the library over one lent buffer that holds an icon theme cache. Each takes any buffer, any name and any number, and says
+// its whole answer by a definition of the crate `format`.
+ghost use mathlib.Core.Path.{_≡_};
+ghost use Prim.Native.Nat.{_+_, _*_, _≤_};
+ghost use lib.ListN.{length};
+ghost use Rattle.format.specs.Header.{buckets};
+ghost use Rattle.format.specs.Record.{imagesAt, images};
+ghost use Rattle.format.specs.Call.{checked, checkBuckets, queryFault, metAnswer, answerWords, lookupWords, partIs, directoryPart, directoryPath};
+ghost use Rattle.format.specs.Call as calls;
+ghost use Rattle.format.specs.Words.{CheckDemand, LookupKept};
+ghost use Rattle.tables.specs.Tables.{Right};
+use bigendian::u32_at;
+use format::CheckAnswer;
+use format::DirectoryAnswer;
+use format::DirectoryPart;
+use format::Ending;
+use format::Fault;
+use format::LookupAnswer;
+use tables::Tables;
+
+// The check's answer where `fault` is one of the rules 1 to 6.
+fn refused(fault: Fault) -> CheckAnswer
+    ensures { λ r. ⌜ r ≡ checked (fault .number) (fault .place) 0 0 0 ⌝ }
+{
+    CheckAnswer {
+        number: fault.number,
+        place: fault.place,
+        directories: 0,
+        icons: 0,
+        opened: 0,
+    }
+}
+
+// The check of all chains, in a cache that keeps the rules 1 to 6.
+fn check_buckets(cache: &[u8], t: Tables) -> CheckAnswer
+    requires { ⌜ Right (now cache) t ⌝ }
+    ensures { λ r. ⌜ r ≡ checkBuckets (buckets (now (cache .entry))) (now (cache .entry)) 0 0 ⌝ }
+{
+    let n = t.buckets;
+    let mut k = 0;
+    let mut opened = 0;
+    while k < n {
+        let walk = chains::walk(cache, t, k, &cache[..0], opened);
+        opened = walk.opened;
+        let ending = walk.ending;
+        match ending {
+            Ending::Broken(number, place) => {
+                return CheckAnswer {
+                    number,
+                    place,
+                    directories: 0,
+                    icons: 0,
+                    opened,
+                };
+            }
+            Ending::Endless => {
+                let place = tables::bucket_field(t, k);
+                return CheckAnswer {
+                    number: 12,
+                    place,
+                    directories: 0,
+                    icons: 0,
+                    opened,
+                };
+            }
+            _ => {}
+        }
+        k += 1;
+    }
+    CheckAnswer {
+        number: 0,
+        place: 0,
+        directories: t.directories,
+        icons: opened,
+        opened,
+    }
+}
+
+// Checks the whole cache: accepted with its counts, or the first broken rule with its place.
+pub fn check(cache: &[u8]) -> CheckAnswer
+    ensures answer { λ r. ⌜ r ≡ calls.check (now (cache .entry)) ⌝ }
+    ensures demand { λ r. ⌜ CheckDemand (now (cache .entry)) r ⌝ }
+{
+    let header = tables::header(cache);
+    if header.number != 0 {
+        return refused(header);
+    }
+    let t = tables::read(cache);
+    let paths = tables::paths(cache, t);
+    if paths.number != 0 {
+        return refused(paths);
+    }
+    check_buckets(cache, t)
+}
+
+// What is judged of a lookup before its walk: whether the name may be asked for, then the rules 1 to 5.
+fn query(cache: &[u8], name: &[u8]) -> Fault
+    ensures { λ r. ⌜ r ≡ queryFault (now (cache .entry)) (now (name .entry)) ⌝ }
+{
+    if !text::allowed(name) {
+        return Fault {
+            number: 13,
+            place: 0,
+        };
+    }
+    tables::header(cache)
+}
+
+// The answer where the walk met the record at `met`, after `opened` records. Its images go into `words` if there is room for all.
+fn found(cache: &[u8], met: usize, opened: usize, words: &mut [u32]) -> LookupAnswer
+    requires { ⌜ met + 12 ≤ length (now cache) ⌝ }
+    requires { ⌜ imagesAt (now cache) met + 4 + 8 * images (now cache) met ≤ length (now cache) ⌝ }
+    ensures answer { λ r. ⌜ r ≡ metAnswer (now (cache .entry)) (length (now (words .entry))) met opened ⌝ }
+    ensures lent { λ r. ⌜ now (words .exit) ≡ answerWords (now (cache .entry)) (now (words .entry)) r ⌝ }
+{
+    let at = u32_at(cache, met + 8) as usize;
+    let images = u32_at(cache, at) as usize;
+    if words.len() < 2 * images {
+        return LookupAnswer {
+            number: 14,
+            place: at,
+            images,
+            opened,
+        };
+    }
+    records::write_images(cache, at + 4, images, words);
+    LookupAnswer {
+        number: 0,
+        place: met,
+        images,
+        opened,
+    }
+}
+
+// Looks for the first record that bears `name`, on the chain of the name's bucket alone. Found with enough room, its images stand in
+// `words`, two words each, and the words beyond are as they were; with any other answer all of them are.
+pub fn lookup(cache: &[u8], name: &[u8], words: &mut [u32]) -> LookupAnswer
+    ensures answer { λ r. ⌜ r ≡ calls.lookup (now (cache .entry)) (now (name .entry)) (length (now (words .entry))) ⌝ }
+    ensures lent { λ r. ⌜ now (words .exit) ≡ lookupWords (now (cache .entry)) (now (name .entry)) (now (words .entry)) ⌝ }
+    ensures demand { λ r. ⌜ LookupKept (now (cache .entry)) (now (name .entry)) r ⌝ }
+{
+    let fault = query(cache, name);
+    if fault.number != 0 {
+        return LookupAnswer {
+            number: fault.number,
+            place: fault.place,
+            images: 0,
+            opened: 0,
+        };
+    }
+    let t = tables::read(cache);
+    let buckets = t.buckets;
+    let bucket = records::bucket_of(name, buckets);
+    let walk = chains::walk(cache, t, bucket, name, 0);
+    let opened = walk.opened;
+    let ending = walk.ending;
+    match ending {
+        Ending::Met(met) => found(cache, met, opened, words),
+        Ending::Broken(number, place) => LookupAnswer {
+            number,
+            place,
+            images: 0,
+            opened,
+        },
+        Ending::Endless => {
+            let place = tables::bucket_field(t, bucket);
+            LookupAnswer {
+                number: 12,
+                place,
+                images: 0,
+                opened,
+            }
+        }
+        Ending::Ended => LookupAnswer {
+            number: 30,
+            place: 0,
+            images: 0,
+            opened,
+        },
+    }
+}
+
+// A refusal of a directory index.
+fn no_part(fault: Fault) -> DirectoryPart
+    ensures { λ r. ⌜ r ≡ partIs (fault .number) (fault .place) 0 0 ⌝ }
+{
+    DirectoryPart {
+        number: fault.number,
+        place: fault.place,
+        start: 0,
+        length: 0,
+    }
+}
+
+// Whether there is a directory `index` with a path that keeps the rules, and where the path stands.
+pub fn directory_part(cache: &[u8], index: usize) -> DirectoryPart
+    ensures { λ r. ⌜ r ≡ directoryPart (now (cache .entry)) index ⌝ }
+{
+    let header = tables::header(cache);
+    if header.number != 0 {
+        return no_part(header);
+    }
+    let t = tables::read(cache);
+    if t.directories <= index {
+        let none = Fault {
+            number: 15,
+            place: 0,
+        };
+        return no_part(none);
+    }
+    let path = tables::path(cache, t, index);
+    let fault = path.fault;
+    DirectoryPart {
+        number: fault.number,
+        place: fault.place,
+        start: path.start,
+        length: path.length,
+    }
+}
+
+// Whether there is a directory `index` with a path that keeps the rules.
+pub fn directory(cache: &[u8], index: usize) -> DirectoryAnswer
+    ensures { λ r. ⌜ r ≡ calls.directory (now (cache .entry)) index ⌝ }
+{
+    let part = directory_part(cache, index);
+    DirectoryAnswer {
+        number: part.number,
+        place: part.place,
+    }
+}
+
+// The path of directory `index` as a part of `cache`, without its zero byte; empty where `directory` refuses.
+pub fn directory_path(cache: &[u8], index: usize) -> &[u8]
+    ensures { λ r. ⌜ now r ≡ directoryPath (now (cache .entry)) index ⌝ }
+{
+    let part = directory_part(cache, index);
+    let start = part.start;
+    let end = start + part.length;
+    &cache[start..end]
+}
