@@ -1,7 +1,7 @@
 -- What each call answers, and what it leaves in the lent words.
 use Prim.Native.Nat.{ℕ, zero, suc, _+_, _*_}
 use mathlib.Core.List.{List, [], _++_}
-use mathlib.Core.Bool.{Bool, not}
+use mathlib.Core.Bool.{not}
 use lib.ListN.{length, drop}
 use lib.Dec.{ltb, leb}
 use Rattle.format.specs.Choice.{if_then_else_}

@@ -1,8 +1,7 @@
 -- The farm cache of document 01, and its examples P1 to P12 as one list.
-use Prim.Native.Nat.{ℕ, zero, suc, _+_, _*_, _/_, _%_}
-use mathlib.Core.Path.{_≡_, refl}
+use Prim.Native.Nat.{ℕ, _+_}
 use mathlib.Core.List.{List, [], _∷_, _++_}
-use mathlib.Core.Bool.{Bool, true, false, _&&_}
+use mathlib.Core.Bool.{Bool, true, _&&_}
 use lib.ListN.{length, take, drop, replicate}
 use lib.Dec.{T, eqb}
 use Rattle.format.specs.Number.{be}

@@ -2,7 +2,7 @@
 use Prim.Native.Nat.{ℕ, zero, suc, _+_, _-_, _≤_, _<_}
 use mathlib.Core.Path.{_≡_}
 use mathlib.Core.List.{List}
-use mathlib.Core.Bool.{Bool, true, not}
+use mathlib.Core.Bool.{true, not}
 use mathlib.Core.Logic.{_↔_}
 use lib.ListN.{length}
 use lib.Dec.{eqb}
@@ -10,7 +10,7 @@ use Rattle.format.specs.Choice.{if_then_else_}
 use Rattle.format.specs.Number.{be, inside}
 use Rattle.format.specs.Fault.{fault, given, _orElse_}
 use Rattle.format.specs.Text.{allowed}
-use Rattle.format.specs.Header.{endValue, headerFault, tablesFault, directories, buckets, bucketField}
+use Rattle.format.specs.Header.{endValue, tablesFault, directories, buckets, bucketField}
 use Rattle.format.specs.Record.{recordFault, nameOf, bucketOf}
 use Rattle.format.specs.Call.{check, checked, lookup, metAnswer, lookedUp}
 use Rattle.format.specs.declared.CheckAnswer.{CheckAnswer}

@@ -5,7 +5,7 @@ ghost use Prim.Native.Nat.{_+_, _*_, _≤_};
 ghost use lib.ListN.{length};
 ghost use Rattle.format.specs.Header.{buckets};
 ghost use Rattle.format.specs.Record.{imagesAt, images};
-ghost use Rattle.format.specs.Call.{checked, checkBuckets, queryFault, metAnswer, answerWords, lookupWords, partIs, directoryPart, directoryPath};
+ghost use Rattle.format.specs.Call.{checked, checkBuckets, queryFault, lookedUp, metAnswer, answerWords, lookupWords, partIs, directoryPart, directoryPath};
 ghost use Rattle.format.specs.Call as calls;
 ghost use Rattle.format.specs.Words.{CheckDemand, LookupKept};
 ghost use Rattle.tables.specs.Tables.{Right};
@@ -132,6 +132,18 @@ fn found(cache: &[u8], met: usize, opened: usize, words: &mut [u32]) -> LookupAn
     }
 }
 
+// The answer without images, after `opened` records.
+fn not_found(number: u32, place: usize, opened: usize) -> LookupAnswer
+    ensures { λ r. ⌜ r ≡ lookedUp number place 0 opened ⌝ }
+{
+    LookupAnswer {
+        number,
+        place,
+        images: 0,
+        opened,
+    }
+}
+
 // Looks for the first record that bears `name`, on the chain of the name's bucket alone. Found with enough room, its images stand in
 // `words`, two words each, and the words beyond are as they were; with any other answer all of them are.
 pub fn lookup(cache: &[u8], name: &[u8], words: &mut [u32]) -> LookupAnswer
@@ -141,12 +153,7 @@ pub fn lookup(cache: &[u8], name: &[u8], words: &mut [u32]) -> LookupAnswer
 {
     let fault = query(cache, name);
     if fault.number != 0 {
-        return LookupAnswer {
-            number: fault.number,
-            place: fault.place,
-            images: 0,
-            opened: 0,
-        };
+        return not_found(fault.number, fault.place, 0);
     }
     let t = tables::read(cache);
     let buckets = t.buckets;
@@ -156,27 +163,9 @@ pub fn lookup(cache: &[u8], name: &[u8], words: &mut [u32]) -> LookupAnswer
     let ending = walk.ending;
     match ending {
         Ending::Met(met) => found(cache, met, opened, words),
-        Ending::Broken(number, place) => LookupAnswer {
-            number,
-            place,
-            images: 0,
-            opened,
-        },
-        Ending::Endless => {
-            let place = tables::bucket_field(t, bucket);
-            LookupAnswer {
-                number: 12,
-                place,
-                images: 0,
-                opened,
-            }
-        }
-        Ending::Ended => LookupAnswer {
-            number: 30,
-            place: 0,
-            images: 0,
-            opened,
-        },
+        Ending::Broken(number, place) => not_found(number, place, opened),
+        Ending::Endless => not_found(12, tables::bucket_field(t, bucket), opened),
+        Ending::Ended => not_found(30, 0, opened),
     }
 }
 

@@ -8,7 +8,7 @@ ghost use lib.Dec.{leb};
 ghost use Rattle.format.specs.Number.{be, listInside};
 ghost use Rattle.format.specs.Text.{string, sameBytes, hash};
 ghost use Rattle.format.specs.Header.{directories};
-ghost use Rattle.format.specs.Record.{nameOf, indexRight, imageRight, imagesRight, imagesFault, recordFault, imageWords};
+ghost use Rattle.format.specs.Record.{nameOf, indexRight, imageRight, imagesFault, recordFault, imageWords};
 ghost use Rattle.tables.specs.Tables.{Right};
 use bigendian::u16_at;
 use bigendian::u32_at;

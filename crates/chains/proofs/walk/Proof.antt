@@ -1,14 +1,14 @@
 -- `chains::walk` meets its contract. The loop's invariant: the rest equals the whole, the walk from the present field on ends as the
 -- walk from the bucket's field on does. Each way out is a law of the definition (`walk-ended`, `walk-outside`, `walk-broken`,
 -- `walk-met`), and one more turn is `walk-next`.
-use Prim.Native.Nat.{ℕ, suc, _+_, _-_, _≤_}
-use mathlib.Core.Path.{_≡_, refl, ap, sym, _∙_}
+use Prim.Native.Nat.{suc, _+_, _-_, _≤_}
+use mathlib.Core.Path.{_≡_, ap, sym, _∙_}
 use native.Mathlib.Omega.{arith}
 use borrow.Author.Needs.{needs}
 use lib.ListN.{length}
 use denote.Ref.{now}
 use Rattle.format.specs.Number.{be}
-use Rattle.format.specs.Header.{buckets, bucketField}
+use Rattle.format.specs.Header.{bucketField}
 use Rattle.format.specs.Chain.{walk, walkBucket}
 use Rattle.format.specs.Words.{Keeps}
 use Rattle.format.specs.declared.Fault.{Fault}

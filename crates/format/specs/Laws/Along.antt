@@ -1,27 +1,20 @@
 -- How the walk of a bucket's chain ends, from what the chain is like.
 use Prim.Native.Nat.{ℕ, zero, suc, _+_, _-_, _≤_, _<_}
 use mathlib.Core.Path.{_≡_, refl, sym, ap, _∙_}
-use mathlib.Core.Logic.{_⊎_, inl, inr}
+use mathlib.Core.Logic.{inl, inr}
 use mathlib.Core.List.{List}
-use mathlib.Core.Bool.{Bool, true, false}
 use native.Mathlib.Nat.{add-zero}
 use native.Mathlib.Omega.{arith}
-use native.Mathlib.Decide.{ℕ-discrete, decLe}
-use borrow.Author.Tests.{le-leb, lt-leb, eq-eqb, ne-eqb, leb-true}
+use native.Mathlib.Decide.{decLe}
+use borrow.Author.Tests.{ne-eqb}
 use lib.ListN.{length}
-use lib.Dec.{eqb, leb}
-use Rattle.format.specs.Number.{be, inside}
-use Rattle.format.specs.Fault.{fault, noFault, given, _orElse_}
-use Rattle.format.specs.Text.{sameBytes}
+use Rattle.format.specs.Number.{be}
 use Rattle.format.specs.Header.{endValue, bucketField}
 use Rattle.format.specs.Record.{recordFault, nameOf}
 use Rattle.format.specs.Chain.{walk, walkEnds}
-use Rattle.format.specs.Words.{link, linkField, Inside, Keeps, KeepsAt, KeepsBelow, NoneBelow, Holds, Breaks, itself}
+use Rattle.format.specs.Words.{link, linkField, Inside, KeepsAt, KeepsBelow, NoneBelow, Holds, Breaks, itself}
 use Rattle.format.specs.declared.Fault.{Fault}
 use Rattle.format.specs.declared.Ending.the-variants.{Ended, Met, Broken, Endless}
-use Rattle.format.specs.Laws.Below.{below-suc}
-use Rattle.format.specs.Laws.Faults.{orElse-first}
-use Rattle.format.specs.Laws.Names.{same-equal}
 use Rattle.format.specs.Laws.Rules.{record-number}
 use Rattle.format.specs.Laws.Links.{broken-inside, broken-outside}
 use Rattle.format.specs.Laws.Walk.{walk-ended, walk-outside, walk-broken, walk-met, walk-next, reads-link}

@@ -7,10 +7,9 @@ use native.Mathlib.Decide.{decLt}
 use native.Mathlib.Omega.{arith}
 use lib.ListN.{length}
 use Rattle.format.specs.Header.{bucketField, buckets, directories, tablesFault}
-use Rattle.format.specs.Record.{nameOf}
-use Rattle.format.specs.Chain.{walk, walkEnds, walkBucket}
+use Rattle.format.specs.Chain.{walkEnds, walkBucket}
 use Rattle.format.specs.Call.{check, checkBuckets, checked}
-use Rattle.format.specs.Words.{link, KeepsAt, KeepsBelow, NoneBelow, Holds, Breaks, Turns, Sound, HeldBefore, Loops, Lengths, sum, itself}
+use Rattle.format.specs.Words.{KeepsAt, KeepsBelow, NoneBelow, Holds, Breaks, Sound, HeldBefore, Lengths, sum, itself}
 use Rattle.format.specs.declared.Fault.{Fault}
 use Rattle.format.specs.declared.Ending.the-variants.{Ended, Met, Broken, Endless}
 use Rattle.format.specs.Laws.Links.{Repeat, once, never-breaks, keeps-named}

@@ -14,7 +14,7 @@ use Rattle.format.specs.Chain.{walkEnds, walkBucket}
 use Rattle.format.specs.Words.{link, linkField, Inside, Keeps, KeepsAt, KeepsBelow, NoneBelow, Holds, Breaks}
 use Rattle.format.specs.declared.Walk.{Walk}
 use Rattle.format.specs.declared.Ending.{Ending}
-use Rattle.format.specs.declared.Ending.the-variants.{Ended, Met, Broken, Endless}
+use Rattle.format.specs.declared.Ending.the-variants.{Met, Broken}
 use Rattle.format.specs.Laws.Below.{below-suc}
 use Rattle.format.specs.Laws.Faults.{orElse-next, orElse-first}
 use Rattle.format.specs.Laws.Names.{equal-or-not}

@@ -1,6 +1,6 @@
 -- The check's answer in the words of demand 3, and demand 3.
-use Prim.Native.Nat.{ℕ, zero, suc, _+_, _-_, _≤_, _<_}
-use mathlib.Core.Path.{_≡_, refl, sym, ap, _∙_}
+use Prim.Native.Nat.{ℕ, suc, _+_, _-_, _≤_, _<_}
+use mathlib.Core.Path.{_≡_, sym, ap, _∙_}
 use mathlib.Core.Logic.{_↔_, Iff·trans}
 use mathlib.Core.List.{List, []}
 use mathlib.Core.Bool.{Bool, true, false}
@@ -13,13 +13,12 @@ use Rattle.format.specs.Text.{hash, allowed}
 use Rattle.format.specs.Header.{buckets, bucketField, directories}
 use Rattle.format.specs.Record.{nameOf, bucketOf}
 use Rattle.format.specs.Call.{check, checked, lookup}
-use Rattle.format.specs.Words.{link, KeepsBelow, NoneBelow, OnChain, Holds, Breaks, Sound, Accepted, Loops, Lengths, sum, itself, CheckDemand, LookupKept, Demand3, CheckAnswers}
+use Rattle.format.specs.Words.{NoneBelow, OnChain, Holds, Breaks, Sound, Accepted, Loops, Lengths, sum, itself, CheckDemand, LookupKept, Demand3, CheckAnswers}
 use Rattle.format.specs.declared.Fault.{Fault}
 use Rattle.format.specs.declared.CheckAnswer.{CheckAnswer}
-use Rattle.format.specs.declared.LookupAnswer.{LookupAnswer}
 use Rattle.format.specs.Laws.Header.{header-right}
 use Rattle.format.specs.Laws.Rules.{tables-right, tables-number}
-use Rattle.format.specs.Laws.Links.{on-chain, chain-on, one-step, once, keeps-bucket, never-breaks, broken-number}
+use Rattle.format.specs.Laws.Links.{on-chain, chain-on, one-step, keeps-bucket, never-breaks, broken-number}
 use Rattle.format.specs.Laws.Course.{course}
 use Rattle.format.specs.Laws.Buckets.{lengths, few, total, check-refuses, answers-accepted, answers-broken, answers-loop}
 use Rattle.format.specs.Laws.Verdict.{Verdict, unsound, accepted, broken, looped, verdict, sound-long}

@@ -4,7 +4,7 @@ use mathlib.Core.Path.{_≡_, refl, ap, _∙_}
 use mathlib.Core.List.{List}
 use mathlib.Core.Bool.{not, and-eq-true-iff}
 use native.Mathlib.Omega.{arith}
-use borrow.Author.Tests.{lt-ltb, le-ltb, not-false, ltb-true}
+use borrow.Author.Tests.{lt-ltb, le-ltb, not-false}
 use lib.ListN.{length, take, drop, length-drop}
 use lib.Dec.{ltb}
 use Rattle.format.specs.Number.{be}

@@ -1,7 +1,7 @@
 -- What a lookup answers, from what the chain of the name's bucket is like.
-use Prim.Native.Nat.{ℕ, zero, suc, _+_, _-_, _*_, _≤_, _<_}
+use Prim.Native.Nat.{ℕ, suc, _+_, _-_, _*_, _≤_, _<_}
 use mathlib.Core.Path.{_≡_, refl, sym, ap, _∙_}
-use mathlib.Core.Logic.{_↔_, inl, inr}
+use mathlib.Core.Logic.{_↔_}
 use mathlib.Core.List.{List}
 use mathlib.Core.Bool.{Bool, true, false, not}
 use native.Mathlib.Nat.{zero-add, sub-zero}
@@ -14,12 +14,11 @@ use Rattle.format.specs.Fault.{fault}
 use Rattle.format.specs.Text.{allowed}
 use Rattle.format.specs.Header.{headerFault, bucketField}
 use Rattle.format.specs.Record.{bucketOf, nameOf, imagesAt, images}
-use Rattle.format.specs.Chain.{walk, walkEnds, walkBucket}
+use Rattle.format.specs.Chain.{walkEnds, walkBucket}
 use Rattle.format.specs.Call.{queryFault, lookup, lookupEnds, metAnswer, lookedUp, answerWords}
 use Rattle.format.specs.Words.{link, KeepsAt, KeepsBelow, NoneBelow, Holds, Breaks, Turns, itself, LookupAnswers}
 use Rattle.format.specs.declared.Fault.{Fault}
 use Rattle.format.specs.declared.Ending.{Ending}
-use Rattle.format.specs.declared.Ending.the-variants.{Ended, Met, Broken, Endless}
 use Rattle.format.specs.declared.LookupAnswer.{LookupAnswer}
 use Rattle.format.specs.Laws.Faults.{orElse-none, given-none, broken-speaks, kept-passes}
 use Rattle.format.specs.Laws.Links.{Repeat, earlier, once, goes-on, never-breaks, broken-keeps, broken-number, holds-le, before-end}

@@ -1,6 +1,6 @@
 -- What a cache can be like: one of four ways, and one is always at hand.
-use Prim.Native.Nat.{ℕ, zero, suc, _+_, _-_, _≤_, _<_}
-use mathlib.Core.Path.{_≡_, refl, sym, _∙_}
+use Prim.Native.Nat.{ℕ, zero, suc, _-_, _≤_, _<_}
+use mathlib.Core.Path.{_≡_, refl}
 use mathlib.Core.Logic.{_⊎_, inl, inr}
 use mathlib.Core.List.{List, []}
 use native.Mathlib.Nat.{le-refl}
@@ -8,8 +8,7 @@ use native.Mathlib.Omega.{arith}
 use lib.ListN.{length}
 use Rattle.format.specs.Fault.{fault}
 use Rattle.format.specs.Header.{buckets, tablesFault}
-use Rattle.format.specs.Words.{KeepsAt, KeepsBelow, Holds, Breaks, Turns, Sound, HeldBefore, Accepted, Loops, Lengths, sum}
-use Rattle.format.specs.declared.Fault.{Fault}
+use Rattle.format.specs.Words.{KeepsAt, KeepsBelow, Breaks, Turns, Sound, HeldBefore, Accepted, Loops, Lengths, sum}
 use Rattle.format.specs.Laws.Below.{below-suc}
 use Rattle.format.specs.Laws.Header.{header-right}
 use Rattle.format.specs.Laws.Rules.{tables-right}

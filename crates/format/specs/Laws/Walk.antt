@@ -1,19 +1,16 @@
 -- The turns of a walk, one law for each way a turn can go, and a walk along records that keep the rules and bear other names.
 use Prim.Native.Nat.{ℕ, zero, suc, _+_, _-_}
-use mathlib.Core.Path.{_≡_, refl, sym, ap, _∙_}
+use mathlib.Core.Path.{_≡_, refl}
 use mathlib.Core.List.{List}
-use mathlib.Core.Bool.{true, false}
 use native.Mathlib.Omega.{arith}
-use native.Mathlib.Nat.{add-zero, add-assoc}
 use borrow.Author.Tests.{eq-eqb, ne-eqb, le-leb, lt-leb}
 use lib.ListN.{length}
 use Rattle.format.specs.Number.{be}
-use Rattle.format.specs.Text.{sameBytes}
-use Rattle.format.specs.Header.{endValue, bucketField}
+use Rattle.format.specs.Header.{endValue}
 use Rattle.format.specs.Record.{recordFault, nameOf}
 use Rattle.format.specs.Chain.{walk, walkEnds}
-use Rattle.format.specs.Words.{Inside, Keeps, KeepsBelow, NoneBelow, link, linkField}
-use Rattle.format.specs.declared.Ending.the-variants.{Ended, Met, Broken, Endless}
+use Rattle.format.specs.Words.{Inside, Keeps, link, linkField}
+use Rattle.format.specs.declared.Ending.the-variants.{Ended, Met, Broken}
 use Rattle.format.specs.Laws.Names.{equal-same, unequal-other}
 
 module _ (s wanted : List ℕ) (k n f o : ℕ) where

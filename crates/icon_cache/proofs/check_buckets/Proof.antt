@@ -7,12 +7,10 @@ use mathlib.Core.List.{List, []}
 use native.Mathlib.Nat.{sub-zero}
 use native.Mathlib.Numerals.{add-one}
 use native.Mathlib.Omega.{arith}
-use borrow.Author.Needs.{needs}
-use lib.ListN.{length}
 use denote.Ref.{now}
 use denote.Enum.Declared.{tagOf}
 use Rattle.format.proofs.Ending.{the-type}
-use Rattle.format.specs.Header.{buckets, bucketField}
+use Rattle.format.specs.Header.{buckets}
 use Rattle.format.specs.Chain.{walkEnds, walkBucket}
 use Rattle.format.specs.declared.Walk.{Walk}
 use Rattle.format.specs.declared.Ending.{Ending}

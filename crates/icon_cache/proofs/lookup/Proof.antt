@@ -1,17 +1,17 @@
 -- `icon_cache::lookup` meets its contract: the refusals before the walk are those of `query`, and each way the walk can end is a case of
 -- `lookupEnds`. The words are written in the one case that answers 0.
 use Prim.Native.Nat.{ℕ, _<_}
-use mathlib.Core.Path.{_≡_, refl, ap, sym, _∙_}
+use mathlib.Core.Path.{_≡_, ap, sym, _∙_}
 use mathlib.Core.List.{List}
 use native.Mathlib.Nat.{mod-lt}
 use native.Mathlib.Omega.{arith}
 use borrow.Author.Needs.{needs}
 use lib.ListN.{length}
 use denote.Ref.{now}
-use Rattle.format.specs.Header.{buckets}
+use Rattle.format.specs.Header.{buckets, bucketField}
 use Rattle.format.specs.Record.{bucketOf}
 use Rattle.format.specs.Chain.{walkEnds, walkBucket}
-use Rattle.format.specs.Call.{queryFault, lookupEnds, lookup, answerWords, lookupWords}
+use Rattle.format.specs.Call.{queryFault, lookupEnds, lookup, lookedUp, answerWords, lookupWords}
 use Rattle.format.specs.Words.{LookupKept}
 use Rattle.format.specs.declared.Ending.{Ending}
 use Rattle.format.specs.declared.LookupAnswer.{LookupAnswer}
@@ -55,15 +55,21 @@ meets : (s name words after : List ℕ) {a : LookupAnswer} → a ≡ lookup s na
     → (a ≡ lookup s name (length words)) × ((after ≡ lookupWords s name words) × LookupKept s name a)
 meets s name words after e lent = (e, (lent ∙ ap (answerWords s words) e, rw e (lookup-demand s name (length words))))
 
-refuses : (s name words : List ℕ) {a : LookupAnswer} → a ≡ lookup s name (length words) → (a .number ≡ 0 → ⊥)
-    → (a ≡ lookup s name (length words)) × ((words ≡ lookupWords s name words) × LookupKept s name a)
-refuses s name words {a} e some = meets s name words words e (sym (answer-keeps s words a some))
+refuses : (s name words : List ℕ) {a : LookupAnswer} {n p o : ℕ} → a ≡ lookedUp n p 0 o → lookup s name (length words) ≡ lookedUp n p 0 o
+    → (n ≡ 0 → ⊥) → (a ≡ lookup s name (length words)) × ((words ≡ lookupWords s name words) × LookupKept s name a)
+refuses s name words {a} {n} {p} {o} e q some =
+    meets s name words words (e ∙ sym q) (sym (rw e (answer-keeps s words (lookedUp n p 0 o) some)))
 
 query-requires : tie.Need-query-requires
 query-requires c κs = search needs
 
+not-found-requires : tie.Need-not-found-requires
+not-found-requires c κs = search needs
+
 returns : tie.Need-returns
-returns c = refuses _ _ _ (sym (lookup-refuses _ _ _ (sym (c .before .before .query .ensures)) (c .if1 .taken))) (c .if1 .taken)
+returns c =
+    let asked = c .before .before .before .query in
+    refuses _ _ _ (c .not-found .ensures) (lookup-refuses _ _ _ (sym (asked .ensures)) (c .before .if1 .taken)) (c .before .if1 .taken)
 
 read-requires : tie.Need-read-requires
 read-requires c κs = query-asks _ _ (asks c) .1
@@ -85,6 +91,9 @@ found-requires c κs =
 enum-known-ending-2 : tie.Need-enum-known-ending-2
 enum-known-ending-2 c = search needs
 
+not-found-requires-2 : tie.Need-not-found-requires-2
+not-found-requires-2 c κs = search needs
+
 enum-told : tie.Need-enum-told
 enum-told c = search needs
 
@@ -93,8 +102,14 @@ bucket-field-requires c κs =
     let placed = c .before .before .before in
     rw (placed .before .read .ensures) (omega (arith, header-right _ (right (placed .before) .header), bucket-below placed))
 
+not-found-requires-3 : tie.Need-not-found-requires-3
+not-found-requires-3 c κs = search needs
+
 enum-told-2 : tie.Need-enum-told-2
 enum-told-2 c = search needs
+
+not-found-requires-4 : tie.Need-not-found-requires-4
+not-found-requires-4 c κs = search needs
 
 same-length : tie.Need-same-length
 same-length c = search needs
@@ -109,31 +124,36 @@ returns-2 c =
 returns-3 : tie.Need-returns-3
 unfolding lookupEnds
 returns-3 c =
-    let w = c .before .before .before in
+    let w = c .before .before .before .before in
     let a = w .before .before .before .before .before .before .before .before .before .args in
-    let broken = walked w (c .before .ending2 .given .1) in
-    refuses _ _ _ (sym (lookup-ends _ _ _ (asks (w .before .before .before)) broken))
+    let broken = walked w (c .before .before .ending2 .given .1) in
+    refuses _ _ _ (c .not-found2 .ensures) (lookup-ends _ _ _ (asks (w .before .before .before)) broken)
     (broken-some (now (a .cache)) (now (a .name)) (bucketOf (now (a .cache)) (now (a .name))) 0 broken)
 
 returns-4 : tie.Need-returns-4
 unfolding lookupEnds
 returns-4 c =
-    let w = c .before .before .before in
+    let w = c .before .before .before .before in
     let placed = w .before in
-    let endless = lookup-ends _ _ _ (asks (placed .before .before)) (walked w (c .before .enum-told .given .1)) in
-    rw (c .bucket-field .ensures, placed .before .read .ensures, bucket-is placed) (refuses _ _ _ (sym endless) (λ z. omega arith))
+    let endless = lookup-ends _ _ _ (asks (placed .before .before)) (walked w (c .before .before .enum-told .given .1)) in
+    let a = placed .before .before .before .before .before .before .before .before .args in
+    let field : c .before .bucket-field .result ≡ bucketField (now (a .cache)) (bucketOf (now (a .cache)) (now (a .name))) =
+    c .before .bucket-field .ensures ∙ rw (placed .before .read .ensures, bucket-is placed) in
+    refuses _ _ _ (c .not-found3 .ensures ∙ ap (λ (p : ℕ). lookedUp 12 p 0 (w .walk .result .opened)) field) endless (λ z. omega arith)
 
 returns-5 : tie.Need-returns-5
 unfolding lookupEnds
 returns-5 c =
-    let w = c .before .before in
-    refuses _ _ _ (sym (lookup-ends _ _ _ (asks (w .before .before .before)) (walked w (c .enum-told2 .given .1)))) (λ z. omega arith)
+    let w = c .before .before .before in
+    let absent = lookup-ends _ _ _ (asks (w .before .before .before)) (walked w (c .before .enum-told2 .given .1)) in
+    refuses _ _ _ (c .not-found4 .ensures) absent (λ z. omega arith)
 
 pub lookup-spec : {M : Type 1} → statement M
 lookup-spec =
     tie.close
     (tie.spec
     query-requires
+    not-found-requires
     returns
     read-requires
     bucket-of-requires
@@ -141,9 +161,12 @@ lookup-spec =
     enum-known-ending
     found-requires
     enum-known-ending-2
+    not-found-requires-2
     enum-told
     bucket-field-requires
+    not-found-requires-3
     enum-told-2
+    not-found-requires-4
     same-length
     returns-2
     returns-3

@@ -5,8 +5,6 @@ use mathlib.Core.Path.{_≡_, refl, sym, _∙_}
 use native.Mathlib.Omega.{arith}
 use borrow.Author.Needs.{needs}
 use lib.ListN.{length}
-use denote.Ref.{now}
-use Rattle.format.specs.Header.{directories}
 use Rattle.format.specs.Record.{imagesFault}
 use Rattle.format.specs.Laws.Images.{images-end, images-stop, images-go-on}
 use Rattle.records.proofs.images.Statement.{statement}

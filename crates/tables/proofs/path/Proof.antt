@@ -1,8 +1,6 @@
 -- `tables::path` meets its contract. The field, the part that starts with the path and the answer on the string are those of the
 -- definitions, and each `return` is one of the laws `path-not-whole`, `path-absolute` and `path-kept`. A whole string has a first byte.
-use Prim.Native.Nat.{ℕ}
 use mathlib.Core.Path.{_≡_, _∙_, sym, ap}
-use mathlib.Core.List.{List}
 use native.Mathlib.Omega.{arith}
 use borrow.Author.Needs.{needs}
 use lib.ListN.{length, drop}

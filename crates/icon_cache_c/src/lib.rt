@@ -1,0 +1,66 @@
+// The public calls for C: bindings/c/icon_cache.h declares them. Each hands on the library's answer whole, the number as its result and the
+// rest through the pointers.
+ghost use mathlib.Core.Path.{_≡_};
+ghost use lib.ListN.{length};
+ghost use Rattle.format.specs.Call.{check, checked, lookup, lookupWords, lookedUp, directory, directoryIs, directoryPart, partIs};
+
+#[no_mangle]
+pub extern "C" fn icon_cache_check(
+    cache: &[u8],
+    place: &mut usize,
+    directories: &mut usize,
+    icons: &mut usize,
+    opened: &mut usize,
+) -> u32
+    ensures { λ r. ⌜ checked r (now (place .exit)) (now (directories .exit)) (now (icons .exit)) (now (opened .exit)) ≡ check (now (cache .entry)) ⌝ }
+{
+    let answer = icon_cache::check(cache);
+    *place = answer.place;
+    *directories = answer.directories;
+    *icons = answer.icons;
+    *opened = answer.opened;
+    answer.number
+}
+
+#[no_mangle]
+pub extern "C" fn icon_cache_lookup(
+    cache: &[u8],
+    name: &[u8],
+    words: &mut [u32],
+    place: &mut usize,
+    images: &mut usize,
+    opened: &mut usize,
+) -> u32
+    ensures answer { λ r. ⌜ lookedUp r (now (place .exit)) (now (images .exit)) (now (opened .exit)) ≡ lookup (now (cache .entry)) (now (name .entry)) (length (now (words .entry))) ⌝ }
+    ensures lent { λ r. ⌜ now (words .exit) ≡ lookupWords (now (cache .entry)) (now (name .entry)) (now (words .entry)) ⌝ }
+{
+    let answer = icon_cache::lookup(cache, name, words);
+    *place = answer.place;
+    *images = answer.images;
+    *opened = answer.opened;
+    answer.number
+}
+
+#[no_mangle]
+pub extern "C" fn icon_cache_directory(cache: &[u8], index: usize, place: &mut usize) -> u32
+    ensures { λ r. ⌜ directoryIs r (now (place .exit)) ≡ directory (now (cache .entry)) index ⌝ }
+{
+    let answer = icon_cache::directory(cache, index);
+    *place = answer.place;
+    answer.number
+}
+
+#[no_mangle]
+pub extern "C" fn icon_cache_directory_path(
+    cache: &[u8],
+    index: usize,
+    start: &mut usize,
+    length: &mut usize,
+) -> u32
+    ensures { λ r. ⌜ partIs r (directoryPart (now (cache .entry)) index .place) (now (start .exit)) (now (length .exit)) ≡ directoryPart (now (cache .entry)) index ⌝ }
+{
+    let answer = icon_cache::directory_part(cache, index);
+    *start = answer.start;
+    *length = answer.length;
+    answer.number
+}
