@@ -1,0 +1,72 @@
+/*
+ * Reading an icon theme cache (icon-theme.cache): C99, usable from C++.
+ *
+ * Every function takes any bytes in the cache, any name and any number, and returns an answer number:
+ *
+ *    0  accepted, or found                          place: 0, or the record found
+ *    1  fewer than 12 bytes                         place: 0
+ *    2  more than 16,777,216 bytes                  place: 0
+ *    3  the version is not 1.0                      place: 0
+ *    4  the directory list is not wholly inside, or too long        place: 8
+ *    5  the hash is not wholly inside, or has no bucket             place: 4
+ *    6  a path is unended, empty, too long or begins with "/"       place: its field in the directory list
+ *    7  a record is not wholly inside               place: the field that names it
+ *    8  a name is unended, empty or too long        place: record + 4
+ *    9  a name stands in another bucket than its hash gives         place: record + 4
+ *   10  an image list is not wholly inside, or too long             place: record + 8
+ *   11  an image's directory index or flags are not allowed         place: the image
+ *   12  the chain never ends                        place: its bucket field
+ *   13  the name asked for is empty, over 255 bytes or holds a zero byte      place: 0
+ *   14  too little room for the images              place: the image list
+ *   15  no directory has that index                 place: 0
+ *   30  no record bears the name                    place: 0
+ *
+ * What the caller owes:
+ *  - a pointer that comes with a length points to that many bytes or words, and is not NULL even where the length is 0;
+ *  - cache and name are not written to while a call runs, by any thread, and `words` does not overlap them;
+ *  - each output pointer points to one object of its own.
+ * Nothing is kept after a call returns, and nothing is allocated. Calls on different outputs may run at the same time.
+ */
+#ifndef ICON_CACHE_H
+#define ICON_CACHE_H
+
+#include <stddef.h>
+#include <stdint.h>
+
+#ifdef __cplusplus
+extern "C" {
+#endif
+
+/*
+ * Checks the whole cache. With any number but 0, *directories and *icons are 0. *opened is the number of icon records that were
+ * looked at.
+ */
+uint32_t icon_cache_check(const uint8_t *cache, size_t cache_len,
+                          size_t *place, size_t *directories, size_t *icons, size_t *opened);
+
+/*
+ * Looks for the icon `name`. With 0, two words for each of the *images images stand at the front of `words`: the directory index times
+ * 65,536 plus the flags (bitmap suffix 1, XPM suffix 2, SVG suffix 4, icon file 8), then the offset of the image data, and the words
+ * beyond are as they were. With any other number all words are as they were. With 14, *images says how many images there are: lend
+ * 2 * *images words. With any number but 0 and 14, *images is 0.
+ */
+uint32_t icon_cache_lookup(const uint8_t *cache, size_t cache_len,
+                           const uint8_t *name, size_t name_len,
+                           uint32_t *words, size_t words_len,
+                           size_t *place, size_t *images, size_t *opened);
+
+/* Whether there is a directory `index` with a good path. */
+uint32_t icon_cache_directory(const uint8_t *cache, size_t cache_len, size_t index, size_t *place);
+
+/*
+ * The path of directory `index`: the *length bytes of the cache from *start on, without the zero byte after them. With any number but 0
+ * both are 0.
+ */
+uint32_t icon_cache_directory_path(const uint8_t *cache, size_t cache_len, size_t index,
+                                   size_t *start, size_t *length);
+
+#ifdef __cplusplus
+}
+#endif
+
+#endif

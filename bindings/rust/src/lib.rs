@@ -1,0 +1,155 @@
+//! Reads icon theme caches (`icon-theme.cache`).
+//!
+//! The cache is a lent byte slice; nothing in it is trusted. [`check`] judges
+//! the whole cache, [`lookup`] finds the images of one icon name, and
+//! [`directory`] gives the path of one directory index.
+//!
+//! ```
+//! use icon_cache::{check, directory, lookup, FARM_CACHE};
+//!
+//! assert_eq!(check(FARM_CACHE)?.icons, 3);
+//!
+//! let cow = lookup(FARM_CACHE, b"cow")?;
+//! let last = cow.images.last().unwrap();
+//! assert_eq!(directory(FARM_CACHE, last.directory.into())?, b"64");
+//! # Ok::<(), icon_cache::Refusal>(())
+//! ```
+//!
+//! The module [`raw`] has the same calls without any allocation.
+
+mod farm;
+pub mod raw;
+mod refusal;
+
+pub use farm::FARM_CACHE;
+pub use refusal::Refusal;
+
+/// An accepted cache.
+#[derive(Clone, Copy, Debug, PartialEq, Eq)]
+pub struct Checked {
+    /// How many directories the cache has.
+    pub directories: usize,
+    /// How many icon records the cache has.
+    pub icons: usize,
+    /// How many icon records the check opened.
+    pub opened: usize,
+}
+
+/// One image of an icon.
+#[derive(Clone, Copy, Debug, PartialEq, Eq)]
+pub struct Image {
+    /// The index of its directory, or 0xFFFF in a cache without directories.
+    pub directory: u16,
+    /// Bitmap suffix 1, XPM suffix 2, SVG suffix 4, icon file 8.
+    pub flags: u16,
+    /// The offset of its image data, as it stands in the cache.
+    pub data_offset: u32,
+}
+
+/// An icon found.
+#[derive(Clone, Debug, PartialEq, Eq)]
+pub struct Found {
+    /// The offset of its record.
+    pub record: usize,
+    /// Its images, in the order of its image list.
+    pub images: Vec<Image>,
+    /// How many icon records the lookup opened.
+    pub opened: usize,
+}
+
+/// Checks the whole cache.
+///
+/// ```
+/// use icon_cache::{check, FARM_CACHE};
+///
+/// let checked = check(FARM_CACHE).unwrap();
+/// assert_eq!((checked.directories, checked.icons), (2, 3));
+///
+/// // Let the chain of the first bucket run in a circle.
+/// let mut cache = FARM_CACHE.to_vec();
+/// cache[40..44].copy_from_slice(&28u32.to_be_bytes());
+/// let refusal = check(&cache).unwrap_err();
+/// assert_eq!((refusal.number, refusal.place), (12, 16));
+/// assert_eq!(refusal.to_string(), "the chain of this bucket never ends");
+/// ```
+pub fn check(cache: &[u8]) -> Result<Checked, Refusal> {
+    let answer = raw::check(cache);
+    match answer.number {
+        0 => Ok(Checked {
+            directories: answer.directories,
+            icons: answer.icons,
+            opened: answer.opened,
+        }),
+        number => Err(Refusal {
+            number,
+            place: answer.place,
+            opened: answer.opened,
+        }),
+    }
+}
+
+/// Looks up one icon name.
+///
+/// ```
+/// use icon_cache::{lookup, FARM_CACHE};
+///
+/// let cow = lookup(FARM_CACHE, b"cow").unwrap();
+/// assert_eq!((cow.record, cow.opened), (52, 1));
+/// assert_eq!(cow.images.len(), 2);
+/// assert_eq!((cow.images[1].directory, cow.images[1].flags), (1, 4));
+///
+/// assert_eq!(lookup(FARM_CACHE, b"pig").unwrap_err().number, 30);
+/// ```
+pub fn lookup(cache: &[u8], name: &[u8]) -> Result<Found, Refusal> {
+    let mut words = Vec::new();
+    let mut answer = raw::lookup(cache, name, &mut words);
+    if answer.number == 14 {
+        // Only this answer says how many images there are.
+        words.resize(2 * answer.images, 0);
+        answer = raw::lookup(cache, name, &mut words);
+    }
+    match answer.number {
+        0 => Ok(Found {
+            record: answer.place,
+            images: words.chunks_exact(2).map(image).collect(),
+            opened: answer.opened,
+        }),
+        number => Err(Refusal {
+            number,
+            place: answer.place,
+            opened: answer.opened,
+        }),
+    }
+}
+
+/// The first word of an image holds its index above its flags.
+fn image(words: &[u32]) -> Image {
+    Image {
+        directory: (words[0] >> 16) as u16,
+        flags: (words[0] & 0xFFFF) as u16,
+        data_offset: words[1],
+    }
+}
+
+/// Gives the path of one directory, a part of the cache.
+///
+/// ```
+/// use icon_cache::{directory, FARM_CACHE};
+///
+/// assert_eq!(directory(FARM_CACHE, 1).unwrap(), b"64");
+/// assert_eq!(directory(FARM_CACHE, 2).unwrap_err().number, 15);
+/// ```
+pub fn directory(cache: &[u8], index: usize) -> Result<&[u8], Refusal> {
+    let answer = raw::directory(cache, index);
+    match answer.number {
+        0 => {
+            let path = raw::directory_path(cache, index);
+            Ok(&cache[path.start..][..path.length])
+        }
+        number => Err(Refusal {
+            number,
+            place: answer.place,
+            opened: 0,
+        }),
+    }
+}

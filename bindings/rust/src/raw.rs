@@ -1,0 +1,195 @@
+//! The four calls of the library as they are: an answer number, a place and
+//! counts. Nothing is allocated; found images go into the words lent.
+
+/// The answer of [`check`].
+#[derive(Clone, Copy, Debug, PartialEq, Eq)]
+pub struct Check {
+    /// The answer number, 0 for an accepted cache.
+    pub number: u32,
+    /// The offset of the fault, 0 for an accepted cache.
+    pub place: usize,
+    /// How many directories there are, 0 with a refusal.
+    pub directories: usize,
+    /// How many icon records there are, 0 with a refusal.
+    pub icons: usize,
+    /// How many records the walk opened.
+    pub opened: usize,
+}
+
+/// The answer of [`lookup`].
+#[derive(Clone, Copy, Debug, PartialEq, Eq)]
+pub struct Lookup {
+    /// The answer number, 0 for a name found.
+    pub number: u32,
+    /// The offset of the record found, or of the fault.
+    pub place: usize,
+    /// How many images the icon has, with the numbers 0 and 14.
+    pub images: usize,
+    /// How many records the walk opened.
+    pub opened: usize,
+}
+
+/// The answer of [`directory`].
+#[derive(Clone, Copy, Debug, PartialEq, Eq)]
+pub struct Directory {
+    /// The answer number, 0 for a directory with an allowed path.
+    pub number: u32,
+    /// The offset of the fault, or 0.
+    pub place: usize,
+}
+
+/// The answer of [`directory_path`]: a part of the cache, empty with a refusal.
+#[derive(Clone, Copy, Debug, PartialEq, Eq)]
+pub struct Path {
+    /// The answer number, 0 for a directory with an allowed path.
+    pub number: u32,
+    /// The offset of the path's first byte.
+    pub start: usize,
+    /// The path's length, without the zero byte.
+    pub length: usize,
+}
+
+mod c {
+    extern "C" {
+        pub fn icon_cache_check(
+            cache: *const u8,
+            cache_len: usize,
+            place: *mut usize,
+            directories: *mut usize,
+            icons: *mut usize,
+            opened: *mut usize,
+        ) -> u32;
+
+        pub fn icon_cache_lookup(
+            cache: *const u8,
+            cache_len: usize,
+            name: *const u8,
+            name_len: usize,
+            words: *mut u32,
+            words_len: usize,
+            place: *mut usize,
+            images: *mut usize,
+            opened: *mut usize,
+        ) -> u32;
+
+        pub fn icon_cache_directory(
+            cache: *const u8,
+            cache_len: usize,
+            index: usize,
+            place: *mut usize,
+        ) -> u32;
+
+        pub fn icon_cache_directory_path(
+            cache: *const u8,
+            cache_len: usize,
+            index: usize,
+            start: *mut usize,
+            length: *mut usize,
+        ) -> u32;
+    }
+}
+
+/// No call answers this value, so a value that was not written shows.
+const UNWRITTEN: usize = usize::MAX;
+
+/// The address of the bytes. That of an empty slice may dangle, so C code is
+/// handed the address of a real byte instead.
+fn address(bytes: &[u8]) -> *const u8 {
+    static NO_BYTES: u8 = 0;
+    if bytes.is_empty() {
+        &NO_BYTES
+    } else {
+        bytes.as_ptr()
+    }
+}
+
+/// Checks the whole cache.
+pub fn check(cache: &[u8]) -> Check {
+    let mut answer = Check {
+        number: 0,
+        place: UNWRITTEN,
+        directories: UNWRITTEN,
+        icons: UNWRITTEN,
+        opened: UNWRITTEN,
+    };
+    // SAFETY: the pointers are valid for the lengths given and for this call,
+    // and only the four numbers are written.
+    answer.number = unsafe {
+        c::icon_cache_check(
+            address(cache),
+            cache.len(),
+            &mut answer.place,
+            &mut answer.directories,
+            &mut answer.icons,
+            &mut answer.opened,
+        )
+    };
+    answer
+}
+
+/// Looks up one icon name. Two words are needed for each image; with any other
+/// number than 0 the words stay as they were.
+pub fn lookup(cache: &[u8], name: &[u8], words: &mut [u32]) -> Lookup {
+    let mut no_words = 0;
+    let lent = if words.is_empty() {
+        &mut no_words
+    } else {
+        words.as_mut_ptr()
+    };
+    let mut answer = Lookup {
+        number: 0,
+        place: UNWRITTEN,
+        images: UNWRITTEN,
+        opened: UNWRITTEN,
+    };
+    // SAFETY: the pointers are valid for the lengths given and for this call,
+    // and only the lent words and the three numbers are written.
+    answer.number = unsafe {
+        c::icon_cache_lookup(
+            address(cache),
+            cache.len(),
+            address(name),
+            name.len(),
+            lent,
+            words.len(),
+            &mut answer.place,
+            &mut answer.images,
+            &mut answer.opened,
+        )
+    };
+    answer
+}
+
+/// Gives the answer number for one directory index.
+pub fn directory(cache: &[u8], index: usize) -> Directory {
+    let mut answer = Directory {
+        number: 0,
+        place: UNWRITTEN,
+    };
+    // SAFETY: the pointers are valid for the length given and for this call,
+    // and only the place is written.
+    answer.number =
+        unsafe { c::icon_cache_directory(address(cache), cache.len(), index, &mut answer.place) };
+    answer
+}
+
+/// Gives the part of the cache that holds the path of one directory.
+pub fn directory_path(cache: &[u8], index: usize) -> Path {
+    let mut answer = Path {
+        number: 0,
+        start: UNWRITTEN,
+        length: UNWRITTEN,
+    };
+    // SAFETY: the pointers are valid for the length given and for this call,
+    // and only the two numbers are written.
+    answer.number = unsafe {
+        c::icon_cache_directory_path(
+            address(cache),
+            cache.len(),
+            index,
+            &mut answer.start,
+            &mut answer.length,
+        )
+    };
+    answer
+}

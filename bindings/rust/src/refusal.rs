@@ -1,0 +1,67 @@
+use std::error::Error;
+use std::fmt;
+
+/// Why a call was refused: the answer number, the place of the fault and the
+/// number of records opened until then.
+///
+/// ```
+/// let refusal = icon_cache::lookup(icon_cache::FARM_CACHE, b"pig").unwrap_err();
+/// assert_eq!(refusal.number, 30);
+/// assert_eq!(refusal.to_string(), "there is no icon of this name");
+/// ```
+#[derive(Clone, Copy, Debug, PartialEq, Eq)]
+pub struct Refusal {
+    /// The answer number, 1 to 15 or 30.
+    pub number: u32,
+    /// The offset of the fault in the cache.
+    pub place: usize,
+    /// How many icon records the call opened.
+    pub opened: usize,
+}
+
+impl fmt::Display for Refusal {
+    fn fmt(&self, f: &mut fmt::Formatter<'_>) -> fmt::Result {
+        f.write_str(match self.number {
+            1 => "the cache is shorter than its header",
+            2 => "the cache is longer than 16,777,216 bytes",
+            3 => "the cache is not of version 1.0",
+            4 => "the directory list leaves the cache or is too long",
+            5 => "the hash leaves the cache or has no buckets",
+            6 => "this directory path is unended, empty, too long or begins with a slash",
+            7 => "the record that this field names leaves the cache",
+            8 => "this name is unended, empty or too long",
+            9 => "this name stands in another bucket than its hash gives",
+            10 => "this image list leaves the cache or is too long",
+            11 => "the directory index or the flags of this image are not allowed",
+            12 => "the chain of this bucket never ends",
+            13 => "the name asked for is empty, too long or holds a zero byte",
+            14 => "there is too little room for the images",
+            15 => "there is no directory of this index",
+            30 => "there is no icon of this name",
+            _ => "the answer number is unknown",
+        })
+    }
+}
+
+impl Error for Refusal {}
+
+#[cfg(test)]
+mod tests {
+    use super::Refusal;
+    use std::collections::HashSet;
+
+    #[test]
+    fn each_number_has_its_own_sentence() {
+        let sentence = |number| {
+            let refusal = Refusal {
+                number,
+                place: 0,
+                opened: 0,
+            };
+            refusal.to_string()
+        };
+        let known: HashSet<_> = (1..=15).chain([30]).map(sentence).collect();
+        assert_eq!(known.len(), 16);
+        assert!(!known.contains(&sentence(0)));
+    }
+}

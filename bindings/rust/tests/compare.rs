@@ -1,0 +1,378 @@
+//! Compares the library with the reader on many sound and damaged buffers.
+//!
+//! `cargo test --test compare -- --nocapture` prints the seed and how often
+//! each answer was met. Other seeds and more buffers are chosen by the
+//! environment variables ICON_CACHE_SEED and ICON_CACHE_BUFFERS.
+
+mod generator;
+mod reader;
+mod side_by_side;
+
+use generator::{damage, name_in_bucket, name_of_hash, series, Random, Sound};
+use side_by_side::{Difference, Pair};
+use std::env;
+use std::sync::atomic::{AtomicBool, AtomicU64, Ordering};
+use std::thread;
+use std::time::Instant;
+
+const SEED: u64 = 20_260_101;
+const BUFFERS: u64 = 200_000;
+
+/// The work is cut into lanes and not by the number of processors, so that a
+/// seed gives the same buffers everywhere.
+const LANES: u64 = 16;
+
+/// Above this length only a few questions are asked.
+const LARGE: usize = 100_000;
+
+#[test]
+fn the_library_agrees_with_the_reader() {
+    let seed = from_environment("ICON_CACHE_SEED", SEED);
+    let buffers = from_environment("ICON_CACHE_BUFFERS", BUFFERS);
+    println!("seed {seed}");
+    let start = Instant::now();
+    let counts = match run(seed, buffers) {
+        Ok(counts) => counts,
+        Err(report) => panic!("seed {seed}, after {:.1?}\n{report}", start.elapsed()),
+    };
+    counts.print();
+    println!("in {:.1?}", start.elapsed());
+    counts.demand_every_answer();
+}
+
+fn from_environment(variable: &str, otherwise: u64) -> u64 {
+    match env::var(variable) {
+        Ok(value) => value.parse().expect("the variable holds a number"),
+        Err(_) => otherwise,
+    }
+}
+
+/// Runs all lanes on all processors. The error tells of the first difference.
+fn run(seed: u64, buffers: u64) -> Result<Counts, String> {
+    let next_lane = AtomicU64::new(0);
+    let stop = AtomicBool::new(false);
+    let work = || {
+        let mut counts = Counts::default();
+        loop {
+            let lane = next_lane.fetch_add(1, Ordering::Relaxed);
+            if lane > LANES {
+                return Ok(counts);
+            }
+            let mut comparison = Comparison::new(seed, lane, &stop);
+            // The buffers on purpose come first, as a lane of their own.
+            match lane {
+                0 => comparison.run_series(),
+                _ => comparison.run_rounds(buffers.div_ceil(LANES)),
+            }
+            counts.add(&comparison.counts);
+            if let Some(report) = comparison.report {
+                stop.store(true, Ordering::Relaxed);
+                return Err(report);
+            }
+        }
+    };
+    let workers = thread::available_parallelism().map_or(1, usize::from);
+    thread::scope(|scope| {
+        let workers: Vec<_> = (0..workers).map(|_| scope.spawn(work)).collect();
+        let mut counts = Counts::default();
+        for worker in workers {
+            counts.add(&worker.join().expect("no worker panics")?);
+        }
+        Ok(counts)
+    })
+}
+
+/// The buffers of one lane.
+struct Comparison<'a> {
+    seed: u64,
+    lane: u64,
+    stop: &'a AtomicBool,
+    random: Random,
+    /// Names that are asked for in each buffer, there or not.
+    names: Vec<Vec<u8>>,
+    counts: Counts,
+    /// The first difference.
+    report: Option<String>,
+}
+
+impl<'a> Comparison<'a> {
+    fn new(seed: u64, lane: u64, stop: &'a AtomicBool) -> Self {
+        Comparison {
+            seed,
+            lane,
+            stop,
+            random: Random::new(seed, lane),
+            names: Vec::new(),
+            counts: Counts::default(),
+            report: None,
+        }
+    }
+
+    fn stopped(&self) -> bool {
+        self.report.is_some() || self.stop.load(Ordering::Relaxed)
+    }
+
+    fn run_series(&mut self) {
+        let farm = Sound::farm();
+        self.names.clone_from(&farm.names);
+        self.run_on_purpose(&farm);
+        series::chains(|bytes| self.compare("chain", bytes));
+        series::large(|what, bytes| self.compare(what, bytes));
+    }
+
+    fn run_rounds(&mut self, buffers: u64) {
+        let mut round = self.lane;
+        while self.counts.buffers < buffers && !self.stopped() {
+            self.random = Random::new(self.seed, round);
+            self.run_round((round / LANES) % 200 == 20);
+            round += LANES;
+        }
+    }
+
+    /// One sound cache, some damages at random, and now and then all damages
+    /// on purpose.
+    fn run_round(&mut self, on_purpose: bool) {
+        let sound = Sound::make(&mut self.random);
+        demand_sound(&sound);
+        self.counts.sound += 1;
+        self.names.clone_from(&sound.names);
+        self.compare("sound", &sound.bytes);
+        for _ in 0..6 {
+            let kind = self.random.below(damage::AT_RANDOM.len());
+            let (what, damage) = damage::AT_RANDOM[kind];
+            if let Some(bytes) = damage(&mut self.random, &sound) {
+                self.compare(what, &bytes);
+            }
+        }
+        // A cut cache is lent with its other bytes still behind it, where a
+        // call that reads too far finds what it expects.
+        let length = self.random.below(sound.bytes.len());
+        self.compare_lent("cut", &sound.bytes[..length]);
+        if on_purpose && sound.bytes.len() < 1_500 {
+            self.run_on_purpose(&sound);
+        }
+    }
+
+    fn run_on_purpose(&mut self, sound: &Sound) {
+        damage::every_field(sound, |bytes| self.compare("every field", bytes));
+        damage::every_chain_end(sound, |bytes| self.compare("every chain end", bytes));
+        for length in 0..sound.bytes.len() {
+            self.compare_lent("every length", &sound.bytes[..length]);
+        }
+    }
+
+    /// Lends the buffer with zero bytes behind it, which would end a string.
+    fn compare(&mut self, what: &str, bytes: &[u8]) {
+        if bytes.len() > LARGE {
+            return self.compare_lent(what, bytes);
+        }
+        let lent = [bytes, &[0; 16]].concat();
+        self.compare_lent(what, &lent[..bytes.len()]);
+    }
+
+    fn compare_lent(&mut self, what: &str, lent: &[u8]) {
+        if self.stopped() {
+            return;
+        }
+        self.counts.buffers += 1;
+        if let Err(difference) = self.ask_all(lent) {
+            self.report = Some(report(what, lent, &difference));
+        }
+    }
+
+    fn ask_all(&mut self, lent: &[u8]) -> Result<(), Difference> {
+        let pair = Pair::new(lent);
+        self.counts.check[pair.check()?.number as usize] += 1;
+        for (i, name) in self.queries(lent).iter().enumerate() {
+            self.ask_lookup(&pair, name, i == 0)?;
+        }
+        for index in self.indexes(lent) {
+            let answer = pair.directory(index)?;
+            self.counts.directory[answer.number as usize] += 1;
+            let answer = pair.directory_path(index)?;
+            self.counts.path[answer.number as usize] += 1;
+        }
+        Ok(())
+    }
+
+    /// Asks with no room, too little, just enough and more.
+    fn ask_lookup(&mut self, pair: &Pair, name: &[u8], thorough: bool) -> Result<(), Difference> {
+        let (answer, _) = pair.lookup(name, 0)?;
+        self.counts.lookup[answer.number as usize] += 1;
+        let need = 2 * answer.images;
+        let rooms = [need.saturating_sub(1), need, need + 3];
+        let chosen = self.random.below(rooms.len());
+        for (i, &room) in rooms.iter().enumerate() {
+            if thorough || i == chosen {
+                let (answer, _) = pair.lookup(name, room)?;
+                self.counts.lookup[answer.number as usize] += 1;
+            }
+        }
+        Ok(())
+    }
+
+    /// Names to ask for: some that are there, others of the same buckets,
+    /// others altogether, and names that are not allowed.
+    fn queries(&mut self, cache: &[u8]) -> Vec<Vec<u8>> {
+        let random = &mut self.random;
+        let there = reader::names(cache);
+        let mut queries = Vec::new();
+        queries.extend(random.pick(&there).map(|name| name.to_vec()));
+        if let (Some((_, buckets)), Some(name)) = (reader::sizes(cache), random.pick(&there)) {
+            queries.extend(neighbours(random, name, buckets));
+        }
+        if cache.len() > LARGE {
+            queries.truncate(2);
+            queries.push(random.text(3));
+            return queries;
+        }
+        queries.extend(there.last().map(|name| name.to_vec()));
+        queries.extend(random.pick(&there).map(|name| name.to_vec()));
+        queries.extend(random.pick(&self.names).cloned());
+        queries.extend(random.pick(&self.names).cloned());
+        let length = random.between(1, 5);
+        queries.push(random.text(length));
+        let length = *random.pick(&[1, 2, 254, 255]).expect("there are some");
+        queries.push(random.text(length));
+        queries.push(Vec::new());
+        let length = *random.pick(&[256, 257, 512]).expect("there are some");
+        queries.push(random.text(length));
+        queries.push(with_zero_byte(random, &there));
+        queries
+    }
+
+    /// Each directory of a small cache, some of a large one, and others that
+    /// are not there.
+    fn indexes(&mut self, cache: &[u8]) -> Vec<usize> {
+        let count = reader::sizes(cache).map_or(1, |(directories, _)| directories);
+        let mut indexes: Vec<usize> = (0..count.min(4)).collect();
+        if count > 4 {
+            indexes.extend([self.random.below(count), count - 1]);
+        }
+        // The last two are 0 in 32 bits, and after a multiplication by 4.
+        let wrapping = [(u32::MAX as usize).wrapping_add(1), usize::MAX / 4 + 1];
+        indexes.extend([count, count + 1, 0xFFFF, usize::MAX]);
+        indexes.extend(wrapping);
+        indexes
+    }
+}
+
+/// Names of the same bucket: shorter, longer and another one.
+fn neighbours(random: &mut Random, name: &[u8], buckets: usize) -> Vec<Vec<u8>> {
+    let bucket = reader::hash(name) as usize % buckets;
+    let mut names = Vec::new();
+    let mut shorter = (1..name.len()).map(|length| &name[..length]);
+    let shorter = shorter.find(|start| reader::hash(start) as usize % buckets == bucket);
+    names.extend(shorter.map(|start| start.to_vec()));
+    if buckets <= 200 {
+        names.push(name_in_bucket(random, name, bucket, buckets));
+        let start = &name[..name.len() - 1];
+        names.push(name_in_bucket(random, start, bucket, buckets));
+    }
+    let hash = bucket + buckets * random.between(1, 3);
+    names.extend(u32::try_from(hash).ok().map(name_of_hash));
+    names
+}
+
+fn with_zero_byte(random: &mut Random, there: &[&[u8]]) -> Vec<u8> {
+    let mut name = match random.pick(there) {
+        Some(name) => name.to_vec(),
+        None => random.text(3),
+    };
+    let place = random.between(0, name.len());
+    name.insert(place, 0);
+    name
+}
+
+/// The maker keeps its word: the reader finds all that was put in.
+fn demand_sound(sound: &Sound) {
+    let icons = sound.names.len();
+    let expected = reader::Check {
+        number: 0,
+        place: 0,
+        directories: sound.directories,
+        icons,
+        opened: icons,
+    };
+    assert_eq!(
+        reader::check(&sound.bytes),
+        expected,
+        "{}",
+        hex(&sound.bytes)
+    );
+}
+
+fn report(what: &str, lent: &[u8], difference: &Difference) -> String {
+    let length = lent.len();
+    // The large buffers are of the fixed series, known by their description.
+    let (shown, note) = if length > LARGE {
+        (&lent[..1_000], ", the first 1,000")
+    } else {
+        (lent, "")
+    };
+    let hex = hex(shown);
+    format!("{what}, {length} bytes{note}:\n{hex}\n{difference:?}")
+}
+
+fn hex(bytes: &[u8]) -> String {
+    bytes.iter().map(|byte| format!("{byte:02X}")).collect()
+}
+
+/// How often each answer number was met, by call.
+#[derive(Default)]
+struct Counts {
+    buffers: u64,
+    /// Buffers made sound; damaged ones may be sound too.
+    sound: u64,
+    check: [u64; 31],
+    lookup: [u64; 31],
+    directory: [u64; 31],
+    path: [u64; 31],
+}
+
+impl Counts {
+    fn add(&mut self, other: &Counts) {
+        self.buffers += other.buffers;
+        self.sound += other.sound;
+        for (sum, more) in [
+            (&mut self.check, &other.check),
+            (&mut self.lookup, &other.lookup),
+            (&mut self.directory, &other.directory),
+            (&mut self.path, &other.path),
+        ] {
+            for (sum, more) in sum.iter_mut().zip(more) {
+                *sum += more;
+            }
+        }
+    }
+
+    /// The counts of each call, and the numbers it can answer.
+    fn calls(&self) -> [(&str, &[u64; 31], Vec<usize>); 4] {
+        let lookup = [0, 1, 2, 3, 4, 5, 7, 8, 9, 10, 11, 12, 13, 14, 30];
+        let directory = [0, 1, 2, 3, 4, 5, 6, 15];
+        [
+            ("check", &self.check, (0..=12).collect()),
+            ("lookup", &self.lookup, lookup.into()),
+            ("directory", &self.directory, directory.into()),
+            ("path", &self.path, directory.into()),
+        ]
+    }
+
+    fn print(&self) {
+        println!("{} buffers, {} made sound", self.buffers, self.sound);
+        println!("answer       check      lookup   directory        path");
+        for number in (0..=15).chain([30]) {
+            let counts = self.calls().map(|(_, counts, _)| counts[number]);
+            let columns = counts.map(|count| format!("{count:>12}"));
+            println!("{number:>6}{}", columns.concat());
+        }
+    }
+
+    fn demand_every_answer(&self) {
+        for (call, counts, numbers) in self.calls() {
+            for number in numbers {
+                assert!(counts[number] > 0, "{call} never answered {number}");
+            }
+        }
+    }
+}

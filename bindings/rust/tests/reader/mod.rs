@@ -1,0 +1,377 @@
+//! A second reader of icon theme caches, written from the paper alone.
+//!
+//! It goes another way than the library. It collects a whole chain first and
+//! remembers each offset on it; a chain that comes back to one of them never
+//! ends. No steps are counted. The records are judged afterwards, in order.
+
+use std::collections::HashSet;
+
+/// In a bucket field or a CHAIN_OFFSET: no further record.
+const END: usize = 0xFFFF_FFFF;
+
+#[derive(Clone, Copy, Debug, PartialEq, Eq)]
+pub struct Check {
+    pub number: u32,
+    pub place: usize,
+    pub directories: usize,
+    pub icons: usize,
+    pub opened: usize,
+}
+
+#[derive(Clone, Copy, Debug, PartialEq, Eq)]
+pub struct Lookup {
+    pub number: u32,
+    pub place: usize,
+    pub images: usize,
+    pub opened: usize,
+}
+
+#[derive(Clone, Copy, Debug, PartialEq, Eq)]
+pub struct Directory {
+    pub number: u32,
+    pub place: usize,
+}
+
+/// A path as a part of the cache; 0 and 0 with a refusal.
+#[derive(Clone, Copy, Debug, PartialEq, Eq)]
+pub struct Path {
+    pub number: u32,
+    pub start: usize,
+    pub length: usize,
+}
+
+/// The first fault in the order of checks.
+struct Fault {
+    number: u32,
+    place: usize,
+}
+
+fn fault(number: u32, place: usize) -> Fault {
+    Fault { number, place }
+}
+
+// Reading.
+
+/// `length` bytes from `offset` on, if they lie wholly inside. Two cuts and no
+/// sum, so that nothing wraps.
+fn part(cache: &[u8], offset: usize, length: usize) -> Option<&[u8]> {
+    cache.get(offset..)?.get(..length)
+}
+
+/// A big-endian number of a field that lies inside.
+fn number(cache: &[u8], field: usize, width: usize) -> usize {
+    let bytes = &cache[field..][..width];
+    bytes
+        .iter()
+        .fold(0, |value, &byte| value * 256 + usize::from(byte))
+}
+
+/// The count at `offset`, if it and the entries after it lie wholly inside.
+fn count(cache: &[u8], offset: usize, entry: usize) -> Option<usize> {
+    part(cache, offset, 4)?;
+    let count = number(cache, offset, 4);
+    part(cache, offset + 4, count.checked_mul(entry)?)?;
+    Some(count)
+}
+
+/// The string at `offset`, if it is ended, not empty and not too long.
+fn string(cache: &[u8], offset: usize, longest: usize) -> Option<&[u8]> {
+    let rest = cache.get(offset..)?;
+    let length = rest.iter().position(|&byte| byte == 0)?;
+    (1..=longest).contains(&length).then(|| &rest[..length])
+}
+
+pub fn hash(name: &[u8]) -> u32 {
+    let bytes = name.iter().map(|&byte| u64::from(byte));
+    let hash = bytes.reduce(|h, byte| (31 * h + byte) % (1 << 32));
+    hash.expect("a name is not empty") as u32
+}
+
+// The parts of a cache.
+
+/// Where the two tables lie and how many entries they have.
+struct Tables {
+    directory_list: usize,
+    directories: usize,
+    hash: usize,
+    buckets: usize,
+}
+
+impl Tables {
+    fn bucket_of(&self, name: &[u8]) -> usize {
+        hash(name) as usize % self.buckets
+    }
+
+    fn bucket_field(&self, bucket: usize) -> usize {
+        self.hash + 4 + 4 * bucket
+    }
+
+    fn path_field(&self, index: usize) -> usize {
+        self.directory_list + 4 + 4 * index
+    }
+}
+
+/// Refusals 1 to 5.
+fn tables(cache: &[u8]) -> Result<Tables, Fault> {
+    if cache.len() < 12 {
+        return Err(fault(1, 0));
+    }
+    if cache.len() > 16_777_216 {
+        return Err(fault(2, 0));
+    }
+    if number(cache, 0, 2) != 1 || number(cache, 2, 2) != 0 {
+        return Err(fault(3, 0));
+    }
+    let directory_list = number(cache, 8, 4);
+    let directories = count(cache, directory_list, 4)
+        .filter(|&n| n <= 65_535)
+        .ok_or(fault(4, 8))?;
+    let hash = number(cache, 4, 4);
+    let buckets = count(cache, hash, 4)
+        .filter(|&b| b >= 1)
+        .ok_or(fault(5, 4))?;
+    Ok(Tables {
+        directory_list,
+        directories,
+        hash,
+        buckets,
+    })
+}
+
+/// Refusal 6, or the place and the length of the path.
+fn path(cache: &[u8], tables: &Tables, index: usize) -> Result<(usize, usize), Fault> {
+    let field = tables.path_field(index);
+    let start = number(cache, field, 4);
+    match string(cache, start, 1_023) {
+        Some(path) if path[0] != b'/' => Ok((start, path.len())),
+        _ => Err(fault(6, field)),
+    }
+}
+
+/// A chain up to its end: the records that lie inside, each met once.
+struct Chain {
+    records: Vec<usize>,
+    end: ChainEnd,
+}
+
+enum ChainEnd {
+    /// The end value.
+    Ended,
+    /// This field names a record that is not wholly inside.
+    Outside { field: usize },
+    /// The next record was met before.
+    Repeats,
+}
+
+fn chain(cache: &[u8], bucket_field: usize) -> Chain {
+    let mut records = Vec::new();
+    let mut visited = HashSet::new();
+    let mut field = bucket_field;
+    let end = loop {
+        let record = number(cache, field, 4);
+        if record == END {
+            break ChainEnd::Ended;
+        }
+        if part(cache, record, 12).is_none() {
+            break ChainEnd::Outside { field };
+        }
+        if !visited.insert(record) {
+            break ChainEnd::Repeats;
+        }
+        records.push(record);
+        // A record begins with its CHAIN_OFFSET.
+        field = record;
+    };
+    Chain { records, end }
+}
+
+/// What stands on a record that keeps the rules.
+struct Icon<'a> {
+    name: &'a [u8],
+    image_list: usize,
+    images: usize,
+}
+
+/// Refusals 8 to 11 on a record of this bucket's chain.
+fn icon<'a>(
+    cache: &'a [u8],
+    tables: &Tables,
+    bucket: usize,
+    record: usize,
+) -> Result<Icon<'a>, Fault> {
+    let name = string(cache, number(cache, record + 4, 4), 255).ok_or(fault(8, record + 4))?;
+    if tables.bucket_of(name) != bucket {
+        return Err(fault(9, record + 4));
+    }
+    let image_list = number(cache, record + 8, 4);
+    let images = count(cache, image_list, 8)
+        .filter(|&m| m <= 1_024)
+        .ok_or(fault(10, record + 8))?;
+    let mut places = (0..images).map(|i| image_list + 4 + 8 * i);
+    if let Some(image) = places.find(|&image| !image_allowed(cache, tables, image)) {
+        return Err(fault(11, image));
+    }
+    Ok(Icon {
+        name,
+        image_list,
+        images,
+    })
+}
+
+fn image_allowed(cache: &[u8], tables: &Tables, image: usize) -> bool {
+    let index = number(cache, image, 2);
+    let flags = number(cache, image + 2, 2);
+    let index_allowed = match tables.directories {
+        0 => index == 0xFFFF,
+        n => index < n && index != 0xFFFF,
+    };
+    index_allowed && flags <= 15
+}
+
+// The calls.
+
+pub fn check(cache: &[u8]) -> Check {
+    let refused = |fault: Fault, opened| Check {
+        number: fault.number,
+        place: fault.place,
+        directories: 0,
+        icons: 0,
+        opened,
+    };
+    let tables = match tables(cache) {
+        Ok(tables) => tables,
+        Err(fault) => return refused(fault, 0),
+    };
+    for index in 0..tables.directories {
+        if let Err(fault) = path(cache, &tables, index) {
+            return refused(fault, 0);
+        }
+    }
+    let mut icons = 0;
+    for bucket in 0..tables.buckets {
+        let bucket_field = tables.bucket_field(bucket);
+        let chain = chain(cache, bucket_field);
+        for &record in &chain.records {
+            icons += 1;
+            if let Err(fault) = icon(cache, &tables, bucket, record) {
+                return refused(fault, icons);
+            }
+        }
+        match chain.end {
+            ChainEnd::Ended => {}
+            ChainEnd::Outside { field } => return refused(fault(7, field), icons),
+            ChainEnd::Repeats => return refused(fault(12, bucket_field), cache.len() - 10),
+        }
+    }
+    Check {
+        number: 0,
+        place: 0,
+        directories: tables.directories,
+        icons,
+        opened: icons,
+    }
+}
+
+pub fn lookup(cache: &[u8], name: &[u8], words: &mut [u32]) -> Lookup {
+    let refused = |fault: Fault, opened| Lookup {
+        number: fault.number,
+        place: fault.place,
+        images: 0,
+        opened,
+    };
+    if name.is_empty() || name.len() > 255 || name.contains(&0) {
+        return refused(fault(13, 0), 0);
+    }
+    let tables = match tables(cache) {
+        Ok(tables) => tables,
+        Err(fault) => return refused(fault, 0),
+    };
+    let bucket = tables.bucket_of(name);
+    let bucket_field = tables.bucket_field(bucket);
+    let chain = chain(cache, bucket_field);
+    for (before, &record) in chain.records.iter().enumerate() {
+        let opened = before + 1;
+        match icon(cache, &tables, bucket, record) {
+            Err(fault) => return refused(fault, opened),
+            Ok(icon) if icon.name == name => return found(cache, record, &icon, opened, words),
+            Ok(_) => {}
+        }
+    }
+    let length = chain.records.len();
+    match chain.end {
+        ChainEnd::Ended => refused(fault(30, 0), length),
+        ChainEnd::Outside { field } => refused(fault(7, field), length),
+        ChainEnd::Repeats => refused(fault(12, bucket_field), cache.len() - 10),
+    }
+}
+
+/// The answer after a match: 0 with the images in the words, or 14.
+fn found(cache: &[u8], record: usize, icon: &Icon<'_>, opened: usize, words: &mut [u32]) -> Lookup {
+    let images = icon.images;
+    let answer = |number, place| Lookup {
+        number,
+        place,
+        images,
+        opened,
+    };
+    if words.len() < 2 * images {
+        return answer(14, icon.image_list);
+    }
+    for i in 0..images {
+        let image = icon.image_list + 4 + 8 * i;
+        let (index, flags) = (number(cache, image, 2), number(cache, image + 2, 2));
+        words[2 * i] = (index * 65_536 + flags) as u32;
+        words[2 * i + 1] = number(cache, image + 4, 4) as u32;
+    }
+    answer(0, record)
+}
+
+pub fn directory(cache: &[u8], index: usize) -> Directory {
+    let (number, place) = match find_path(cache, index) {
+        Ok(_) => (0, 0),
+        Err(fault) => (fault.number, fault.place),
+    };
+    Directory { number, place }
+}
+
+pub fn directory_path(cache: &[u8], index: usize) -> Path {
+    let (number, (start, length)) = match find_path(cache, index) {
+        Ok(part) => (0, part),
+        Err(fault) => (fault.number, (0, 0)),
+    };
+    Path {
+        number,
+        start,
+        length,
+    }
+}
+
+fn find_path(cache: &[u8], index: usize) -> Result<(usize, usize), Fault> {
+    let tables = tables(cache)?;
+    if index >= tables.directories {
+        return Err(fault(15, 0));
+    }
+    path(cache, &tables, index)
+}
+
+/// How many directories and buckets there are, if none of 1 to 5 stands.
+pub fn sizes(cache: &[u8]) -> Option<(usize, usize)> {
+    let tables = tables(cache).ok()?;
+    Some((tables.directories, tables.buckets))
+}
+
+/// The names of all records that keep the rules, in the order of the check.
+pub fn names(cache: &[u8]) -> Vec<&[u8]> {
+    let Ok(tables) = tables(cache) else {
+        return Vec::new();
+    };
+    let mut names = Vec::new();
+    for bucket in 0..tables.buckets {
+        for record in chain(cache, tables.bucket_field(bucket)).records {
+            if let Ok(icon) = icon(cache, &tables, bucket, record) {
+                names.push(icon.name);
+            }
+        }
+    }
+    names
+}

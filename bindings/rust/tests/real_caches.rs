@@ -1,0 +1,79 @@
+//! Caches of real icon themes: the check, each name and each directory.
+
+mod reader;
+mod side_by_side;
+
+use icon_cache::{check, directory, lookup};
+use side_by_side::Pair;
+
+#[test]
+fn hicolor() {
+    walk(include_bytes!("data/hicolor.cache"));
+}
+
+#[test]
+fn tango() {
+    walk(include_bytes!("data/Tango.cache"));
+}
+
+fn walk(cache: &[u8]) {
+    let pair = Pair::new(cache);
+    let checked = pair.check().unwrap();
+    assert_eq!(checked.number, 0);
+    assert_eq!(check(cache).unwrap().icons, checked.icons);
+
+    let names = reader::names(cache);
+    assert_eq!(names.len(), checked.icons);
+    for name in names {
+        ask_name(&pair, cache, name);
+    }
+    let (directories, buckets) = reader::sizes(cache).unwrap();
+    println!(
+        "{} icons in {buckets} buckets, {directories} directories",
+        checked.icons
+    );
+    for index in 0..directories {
+        ask_directory(&pair, cache, index);
+    }
+    assert_eq!(pair.directory(directories).unwrap().number, 15);
+}
+
+fn ask_name(pair: &Pair, cache: &[u8], name: &[u8]) {
+    let need = 2 * pair.lookup(name, 0).unwrap().0.images;
+    let (found, words) = pair.lookup(name, need + 2).unwrap();
+    assert_eq!(found.number, 0);
+    assert_eq!(pair.lookup(name, need).unwrap().0, found);
+
+    let safe = lookup(cache, name).unwrap();
+    assert_eq!((safe.record, safe.opened), (found.place, found.opened));
+    let safe_words = safe.images.iter().flat_map(|image| {
+        let first = u32::from(image.directory) << 16 | u32::from(image.flags);
+        [first, image.data_offset]
+    });
+    assert!(safe_words.eq(words[..need].iter().copied()));
+
+    // The name with a byte more is another one.
+    let longer = [name, b"~"].concat();
+    assert_eq!(pair.lookup(&longer, need).unwrap().0.number, 30);
+}
+
+fn ask_directory(pair: &Pair, cache: &[u8], index: usize) {
+    assert_eq!(pair.directory(index).unwrap().number, 0);
+    let path = pair.directory_path(index).unwrap();
+    let bytes = &cache[path.start..][..path.length];
+    assert_eq!(directory(cache, index).unwrap(), bytes);
+    assert_eq!(cache[path.start + path.length], 0);
+}
+
+#[test]
+fn gvim_of_hicolor() {
+    let cache = include_bytes!("data/hicolor.cache");
+    let found = lookup(cache, b"gvim").unwrap();
+    let images: Vec<_> = found
+        .images
+        .iter()
+        .map(|i| (i.directory, i.flags))
+        .collect();
+    assert_eq!(found.record, 120);
+    assert_eq!(images, [(4, 2), (3, 4)]);
+}

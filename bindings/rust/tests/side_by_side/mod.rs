@@ -1,0 +1,125 @@
+//! Asks the library and the reader the same and compares every part of their
+//! answers.
+
+use crate::reader;
+use icon_cache::raw;
+use std::fmt::{self, Debug};
+
+/// Words beyond the room on either side, which no call may touch.
+const GUARD: usize = 4;
+
+/// Two answers that differ.
+pub struct Difference {
+    pub call: String,
+    pub library: String,
+    pub reader: String,
+}
+
+impl Debug for Difference {
+    fn fmt(&self, f: &mut fmt::Formatter<'_>) -> fmt::Result {
+        writeln!(f, "{}", self.call)?;
+        writeln!(f, "  library: {}", self.library)?;
+        write!(f, "  reader:  {}", self.reader)
+    }
+}
+
+/// One buffer and a copy of it. The library sees the lent buffer and the reader
+/// the copy, so that a change to the buffer shows.
+pub struct Pair<'a> {
+    lent: &'a [u8],
+    copy: Vec<u8>,
+}
+
+impl<'a> Pair<'a> {
+    pub fn new(lent: &'a [u8]) -> Self {
+        Pair {
+            lent,
+            copy: lent.to_vec(),
+        }
+    }
+
+    pub fn check(&self) -> Result<reader::Check, Difference> {
+        let answer = raw::check(self.lent);
+        let library = reader::Check {
+            number: answer.number,
+            place: answer.place,
+            directories: answer.directories,
+            icons: answer.icons,
+            opened: answer.opened,
+        };
+        self.agree(|| "check".into(), library, reader::check(&self.copy))
+    }
+
+    /// Looks up `name` with `room` words lent, and gives them after the call.
+    pub fn lookup(
+        &self,
+        name: &[u8],
+        room: usize,
+    ) -> Result<(reader::Lookup, Vec<u32>), Difference> {
+        let mut words = marked(room + 2 * GUARD);
+        let answer = raw::lookup(self.lent, name, &mut words[GUARD..][..room]);
+        let library = reader::Lookup {
+            number: answer.number,
+            place: answer.place,
+            images: answer.images,
+            opened: answer.opened,
+        };
+        let mut expected = marked(room + 2 * GUARD);
+        let reader = reader::lookup(&self.copy, name, &mut expected[GUARD..][..room]);
+        let call = || format!("lookup {name:02x?} with {room} words");
+        self.agree(call, library, reader)?;
+        let call = || format!("words after {}, {GUARD} more on either side", call());
+        self.agree(call, &words, &expected)?;
+        Ok((reader, expected[GUARD..][..room].to_vec()))
+    }
+
+    pub fn directory(&self, index: usize) -> Result<reader::Directory, Difference> {
+        let answer = raw::directory(self.lent, index);
+        let library = reader::Directory {
+            number: answer.number,
+            place: answer.place,
+        };
+        let reader = reader::directory(&self.copy, index);
+        self.agree(|| format!("directory {index}"), library, reader)
+    }
+
+    pub fn directory_path(&self, index: usize) -> Result<reader::Path, Difference> {
+        let answer = raw::directory_path(self.lent, index);
+        let library = reader::Path {
+            number: answer.number,
+            start: answer.start,
+            length: answer.length,
+        };
+        let reader = reader::directory_path(&self.copy, index);
+        self.agree(|| format!("path of directory {index}"), library, reader)
+    }
+
+    /// The answers are equal, and the call left the buffer as it was.
+    fn agree<T: PartialEq + Debug>(
+        &self,
+        call: impl Fn() -> String,
+        library: T,
+        reader: T,
+    ) -> Result<T, Difference> {
+        if library != reader {
+            return Err(Difference {
+                call: call(),
+                library: format!("{library:?}"),
+                reader: format!("{reader:?}"),
+            });
+        }
+        if self.lent != self.copy {
+            return Err(Difference {
+                call: call(),
+                library: "changed the cache".into(),
+                reader: "left it as it was".into(),
+            });
+        }
+        Ok(reader)
+    }
+}
+
+/// Words that all differ and that no small cache holds.
+fn marked(count: usize) -> Vec<u32> {
+    (0..count).map(|i| 0xA5A5_0000 + i as u32).collect()
+}

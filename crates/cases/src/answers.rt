@@ -1,0 +1,85 @@
+// Prints one line for each answer: the case, the call, and every number that the call gives.
+use format::LookupAnswer;
+use libc::STDOUT_FILENO;
+
+pub fn print(text: &[u8]) {
+    io::write_all(STDOUT_FILENO, text);
+}
+
+pub fn count(before: &[u8], value: usize) {
+    print(before);
+    io::print_decimal(STDOUT_FILENO, value as u64);
+}
+
+pub fn end() {
+    print(b"\n");
+}
+
+fn begin(case: &[u8], call: &[u8], number: u32, place: usize) {
+    print(case);
+    count(call, number as usize);
+    count(b" at ", place);
+}
+
+pub fn check(case: &[u8], cache: &[u8]) {
+    let answer = icon_cache::check(cache);
+    begin(case, b": check ", answer.number, answer.place);
+    count(b", directories ", answer.directories);
+    count(b", icons ", answer.icons);
+    count(b", opened ", answer.opened);
+    end();
+}
+
+// The line of a lookup, left open for what is to be said of its words.
+pub fn begin_lookup(case: &[u8], answer: LookupAnswer) {
+    begin(case, b": lookup ", answer.number, answer.place);
+    count(b", images ", answer.images);
+    count(b", opened ", answer.opened);
+}
+
+// A function, so that no loop has to show that its word fits.
+pub fn wide(word: u32) -> usize {
+    word as usize
+}
+
+fn print_words(words: &[u32]) {
+    if words.len() == 0 {
+        print(b", no words");
+        return;
+    }
+    print(b", words");
+    let mut i = 0;
+    while i < words.len() {
+        count(b" ", wide(words[i]));
+        i += 1;
+    }
+}
+
+// The front of `words`, as many as are to be lent.
+fn front(words: &mut [u32], room: usize) -> &mut [u32] {
+    if room < words.len() {
+        &mut words[..room]
+    } else {
+        words
+    }
+}
+
+fn lookup_into(case: &[u8], cache: &[u8], name: &[u8], words: &mut [u32]) {
+    begin_lookup(case, icon_cache::lookup(cache, name, words));
+    print_words(words);
+    end();
+}
+
+// A lookup with `room` words lent, at most 6. Each holds 7 beforehand, so that an untouched one shows.
+pub fn lookup(case: &[u8], cache: &[u8], name: &[u8], room: usize) {
+    let mut words = [7u32; 6];
+    lookup_into(case, cache, name, front(&mut words, room));
+}
+
+pub fn directory(case: &[u8], cache: &[u8], index: usize) {
+    let answer = icon_cache::directory(cache, index);
+    begin(case, b": directory ", answer.number, answer.place);
+    print(b", path \"");
+    print(icon_cache::directory_path(cache, index));
+    print(b"\"\n");
+}

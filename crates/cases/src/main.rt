@@ -1,0 +1,26 @@
+// Runs the cases of document 01 and prints a line for each. The stored output was written from the document, so a run that differs is a fault of
+// the code. Each file of src/ holds the cases on one subject; answers.rt prints, and build.rt and farm.rt make the caches.
+mod answers;
+mod build;
+mod directories;
+mod farm;
+mod hashes;
+mod header;
+mod images;
+mod marked;
+mod names;
+mod places;
+mod queries;
+mod walks;
+
+fn main() {
+    hashes::run();
+    header::run();
+    directories::run();
+    names::run();
+    images::run();
+    places::run();
+    walks::run();
+    queries::run();
+    marked::run();
+}

@@ -1,0 +1,2 @@
+-- What the check program prints, as definitions.
+pub mod Line

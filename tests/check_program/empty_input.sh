@@ -1,0 +1,2 @@
+# refused 1 at 0 opened 0
+:

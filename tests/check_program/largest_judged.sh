@@ -1,0 +1,3 @@
+# accepted 3 icons 2 directories
+cat tests/caches/farm.cache
+head -c $((65536 - 126)) /dev/zero
