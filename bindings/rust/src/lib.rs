@@ -15,7 +15,8 @@
 //! # Ok::<(), icon_cache::Refusal>(())
 //! ```
 //!
-//! The module [`raw`] has the same calls without any allocation.
+//! What is wrong with a cache is told by a [`Refusal`]. The module [`raw`] has
+//! the same calls without any allocation.
 
 mod farm;
 pub mod raw;
@@ -23,6 +24,16 @@ mod refusal;
 
 pub use farm::FARM_CACHE;
 pub use refusal::Refusal;
+
+/// The largest length of a cache, 16 MiB. A longer one is refused with number 2.
+///
+/// ```
+/// use icon_cache::{check, LARGEST};
+///
+/// let refusal = check(&vec![0; LARGEST + 1]).unwrap_err();
+/// assert_eq!(refusal.number, 2);
+/// ```
+pub const LARGEST: usize = 16_777_216;
 
 /// An accepted cache.
 #[derive(Clone, Copy, Debug, PartialEq, Eq)]
@@ -36,14 +47,35 @@ pub struct Checked {
 }
 
 /// One image of an icon.
+///
+/// ```
+/// use icon_cache::{lookup, Image, FARM_CACHE};
+///
+/// let cow = lookup(FARM_CACHE, b"cow").unwrap();
+/// assert_eq!(cow.images[0].flags, Image::BITMAP_SUFFIX);
+/// assert_eq!(cow.images[1].flags, Image::SVG_SUFFIX);
+/// ```
 #[derive(Clone, Copy, Debug, PartialEq, Eq)]
 pub struct Image {
-    /// The index of its directory, or 0xFFFF in a cache without directories.
+    /// The index of its directory, or [`Image::NO_DIRECTORY`].
     pub directory: u16,
-    /// Bitmap suffix 1, XPM suffix 2, SVG suffix 4, icon file 8.
+    /// The sum of its flags, 0 to 15.
     pub flags: u16,
     /// The offset of its image data, as it stands in the cache.
     pub data_offset: u32,
+}
+
+impl Image {
+    /// The directory index of each image in a cache without directories.
+    pub const NO_DIRECTORY: u16 = 0xFFFF;
+    /// The flag of a bitmap file, such as PNG.
+    pub const BITMAP_SUFFIX: u16 = 1;
+    /// The flag of an XPM file.
+    pub const XPM_SUFFIX: u16 = 2;
+    /// The flag of an SVG file.
+    pub const SVG_SUFFIX: u16 = 4;
+    /// The flag of an icon file (`.icon`), which describes the image.
+    pub const ICON_FILE: u16 = 8;
 }
 
 /// An icon found.
@@ -88,7 +120,8 @@ pub fn check(cache: &[u8]) -> Result<Checked, Refusal> {
     }
 }
 
-/// Looks up one icon name.
+/// Looks up one icon name. Only the records that it meets are judged, so a name
+/// may be found in a cache that [`check`] refuses.
 ///
 /// ```
 /// use icon_cache::{lookup, FARM_CACHE};
@@ -101,17 +134,27 @@ pub fn check(cache: &[u8]) -> Result<Checked, Refusal> {
 /// assert_eq!(lookup(FARM_CACHE, b"pig").unwrap_err().number, 30);
 /// ```
 pub fn lookup(cache: &[u8], name: &[u8]) -> Result<Found, Refusal> {
-    let mut words = Vec::new();
-    let mut answer = raw::lookup(cache, name, &mut words);
-    if answer.number == 14 {
-        // Only this answer says how many images there are.
-        words.resize(2 * answer.images, 0);
-        answer = raw::lookup(cache, name, &mut words);
+    let mut usual = [0; 2 * USUAL_IMAGES];
+    let answer = raw::lookup(cache, name, &mut usual);
+    if answer.number != 14 {
+        return found(answer, &usual);
     }
+    // This answer says how many images there are.
+    let mut words = vec![0; 2 * answer.images];
+    found(raw::lookup(cache, name, &mut words), &words)
+}
+
+/// Few icons have more images, so one call is mostly enough.
+const USUAL_IMAGES: usize = 32;
+
+fn found(answer: raw::Lookup, words: &[u32]) -> Result<Found, Refusal> {
     match answer.number {
         0 => Ok(Found {
             record: answer.place,
-            images: words.chunks_exact(2).map(image).collect(),
+            images: words[..2 * answer.images]
+                .chunks_exact(2)
+                .map(image)
+                .collect(),
             opened: answer.opened,
         }),
         number => Err(Refusal {
@@ -131,7 +174,8 @@ fn image(words: &[u32]) -> Image {
     }
 }
 
-/// Gives the path of one directory, a part of the cache.
+/// Gives the path of one directory, a part of the cache. The path may hold any
+/// bytes but zero and doesn't begin with a slash.
 ///
 /// ```
 /// use icon_cache::{directory, FARM_CACHE};

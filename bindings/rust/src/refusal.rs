@@ -2,18 +2,25 @@ use std::error::Error;
 use std::fmt;
 
 /// Why a call was refused: the answer number, the place of the fault and the
-/// number of records opened until then.
+/// number of records opened until then. It is displayed as one sentence.
 ///
 /// ```
-/// let refusal = icon_cache::lookup(icon_cache::FARM_CACHE, b"pig").unwrap_err();
+/// use icon_cache::{check, lookup, FARM_CACHE};
+///
+/// let refusal = lookup(FARM_CACHE, b"pig").unwrap_err();
 /// assert_eq!(refusal.number, 30);
 /// assert_eq!(refusal.to_string(), "there is no icon of this name");
+///
+/// // "cow" is the last string; without its zero byte it has no end.
+/// let refusal = check(&FARM_CACHE[..125]).unwrap_err();
+/// assert_eq!((refusal.number, refusal.place), (8, 56));
+/// assert_eq!(refusal.to_string(), "this name is unended, empty or too long");
 /// ```
 #[derive(Clone, Copy, Debug, PartialEq, Eq)]
 pub struct Refusal {
     /// The answer number, 1 to 15 or 30.
     pub number: u32,
-    /// The offset of the fault in the cache.
+    /// The offset of the fault in the cache, 0 where it has none.
     pub place: usize,
     /// How many icon records the call opened.
     pub opened: usize,

@@ -7,7 +7,6 @@ mod farm;
 mod hashes;
 mod header;
 mod images;
-mod marked;
 mod names;
 mod places;
 mod queries;
@@ -22,5 +21,4 @@ fn main() {
     places::run();
     walks::run();
     queries::run();
-    marked::run();
 }

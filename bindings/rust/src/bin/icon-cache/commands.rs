@@ -1,0 +1,143 @@
+//! The three commands.
+
+use crate::input::Source;
+use crate::output::{Colour, Output, Status};
+use crate::show;
+use icon_cache::{Found, Image, Refusal};
+use std::ffi::{OsStr, OsString};
+
+/// The answer numbers that are told apart.
+const BAD_PATH: u32 = 6;
+const NO_SUCH_DIRECTORY: u32 = 15;
+const ABSENT: u32 = 30;
+
+pub fn check(output: &mut Output, files: &[OsString]) -> Status {
+    let status = files.iter().map(|file| check_file(output, file));
+    status.max().unwrap_or(Status::Good)
+}
+
+pub fn lookup(output: &mut Output, file: &OsStr, names: &[OsString]) -> Status {
+    with_cache(output, file, |output, _, cache| {
+        let names = names.iter().map(|name| name.as_encoded_bytes());
+        let status = names.map(|name| lookup_name(output, cache, name));
+        status.max().unwrap_or(Status::Good)
+    })
+}
+
+pub fn dirs(output: &mut Output, file: &OsStr) -> Status {
+    with_cache(output, file, list_directories)
+}
+
+/// Reads the cache and hands it on with its name, if it can be read.
+fn with_cache(
+    output: &mut Output,
+    file: &OsStr,
+    command: impl FnOnce(&mut Output, &str, &[u8]) -> Status,
+) -> Status {
+    let source = Source::of(file);
+    let shown = source.shown();
+    match source.read() {
+        Ok(cache) => command(output, &shown, &cache),
+        Err(error) => {
+            output.complain(&format!("{shown}: {error}"));
+            Status::Failed
+        }
+    }
+}
+
+fn check_file(output: &mut Output, file: &OsStr) -> Status {
+    with_cache(
+        output,
+        file,
+        |output, shown, cache| match icon_cache::check(cache) {
+            Ok(checked) => {
+                let icons = show::count(checked.icons, "icon", "icons");
+                let directories = show::count(checked.directories, "directory", "directories");
+                let accepted = output.paint(Colour::Green, "accepted");
+                output.line(&format!("{shown}: {accepted}: {icons}, {directories}"));
+                Status::Good
+            }
+            Err(refusal) => say_refused(output, shown, &refusal),
+        },
+    )
+}
+
+fn say_refused(output: &mut Output, what: &str, refusal: &Refusal) -> Status {
+    let refused = output.paint(Colour::Red, "refused");
+    let why = show::refusal(refusal);
+    output.line(&format!("{what}: {refused}: {why}"));
+    Status::Refused
+}
+
+fn lookup_name(output: &mut Output, cache: &[u8], name: &[u8]) -> Status {
+    let shown = match name {
+        [] => "\"\"".to_owned(),
+        _ => show::bytes(name),
+    };
+    match icon_cache::lookup(cache, name) {
+        Ok(icon) => say_found(output, cache, &shown, &icon),
+        Err(refusal) if refusal.number == ABSENT => {
+            let absent = output.paint(Colour::Yellow, "absent");
+            output.line(&format!("{shown}: {absent}: {refusal}"));
+            Status::Refused
+        }
+        Err(refusal) => say_refused(output, &shown, &refusal),
+    }
+}
+
+fn say_found(output: &mut Output, cache: &[u8], shown: &str, icon: &Found) -> Status {
+    let found = output.paint(Colour::Green, "found");
+    let images = show::count(icon.images.len(), "image", "images");
+    let record = show::offset(icon.record);
+    output.line(&format!("{shown}: {found}: {images}, record at {record}"));
+    let status = icon
+        .images
+        .iter()
+        .map(|image| say_image(output, cache, image));
+    status.max().unwrap_or(Status::Good)
+}
+
+fn say_image(output: &mut Output, cache: &[u8], image: &Image) -> Status {
+    let flags = show::flags(image.flags);
+    let data = show::offset(image.data_offset as usize);
+    let rest = format!("{flags}, data offset {data}");
+    match directory_of(cache, image) {
+        Ok(directory) => {
+            output.line(&format!("  {directory}: {rest}"));
+            Status::Good
+        }
+        Err(refusal) => {
+            let index = image.directory;
+            output.line(&format!("  directory {index}: {rest}"));
+            say_refused(output, &format!("  directory {index}"), &refusal)
+        }
+    }
+}
+
+/// A lookup judges no paths, so that of an image may still be refused.
+fn directory_of(cache: &[u8], image: &Image) -> Result<String, Refusal> {
+    match image.directory {
+        Image::NO_DIRECTORY => Ok("no directory".to_owned()),
+        index => icon_cache::directory(cache, index.into()).map(show::bytes),
+    }
+}
+
+fn list_directories(output: &mut Output, shown: &str, cache: &[u8]) -> Status {
+    let mut status = Status::Good;
+    let mut index = 0;
+    loop {
+        match icon_cache::directory(cache, index) {
+            Ok(path) => output.line(&format!("{index}: {}", show::bytes(path))),
+            Err(refusal) => match refusal.number {
+                BAD_PATH => status = say_refused(output, &index.to_string(), &refusal),
+                NO_SUCH_DIRECTORY => break,
+                _ => return say_refused(output, shown, &refusal),
+            },
+        }
+        index += 1;
+    }
+    if index == 0 {
+        output.line(&format!("{shown}: no directories"));
+    }
+    status
+}

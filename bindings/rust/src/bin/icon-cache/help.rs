@@ -1,0 +1,67 @@
+//! What `--help` and `--version` print.
+
+pub const VERSION: &str = concat!("icon-cache ", env!("CARGO_PKG_VERSION"));
+
+pub const TOOL: &str = "\
+Checks icon theme caches (icon-theme.cache) and looks up icons in them.
+
+Usage:
+  icon-cache check FILE...         say whether each cache is sound
+  icon-cache lookup FILE NAME...   show the images of each icon
+  icon-cache dirs FILE             list the directories of a cache
+
+A directory as FILE stands for the icon-theme.cache in it, and - for standard
+input. After -- no argument is taken for an option.
+
+Options:
+  -h, --help      show this help, or that of a command after its name
+  -V, --version   show the version
+
+Exit status:
+  0  each cache is accepted, each icon is found
+  1  a cache is refused, or an icon is absent
+  2  a wrong command line, or a file that can't be read
+
+On a terminal the output has colours, unless NO_COLOR is set.";
+
+pub const CHECK: &str = "\
+Says whether each cache is sound, in one line for each file.
+
+Usage: icon-cache check FILE...
+
+An accepted cache is shown with the number of its icons and directories. For a
+refused one the line says which rule it breaks first, at which offset (decimal
+and hex), and what that means.
+
+A directory as FILE stands for the icon-theme.cache in it, and - for standard
+input. A file above 16,777,216 bytes is refused by rule 2 and not read further.
+
+Exit status: 0 all accepted, 1 one refused, 2 one that can't be read.";
+
+pub const LOOKUP: &str = "\
+Shows the images of each icon: directory, flags and the offset of image data.
+
+Usage: icon-cache lookup FILE NAME...
+
+A NAME is that of the icon, without directory and suffix: folder-open. Names
+that begin with - are given after --.
+
+Flags are the sum of: bitmap suffix 1, XPM suffix 2, SVG suffix 4, icon file 8.
+Some generators mean XPM suffix by 1, SVG suffix by 2 and bitmap suffix by 4; a
+cache doesn't say which it is, so their sum is shown too.
+
+A directory as FILE stands for the icon-theme.cache in it, and - for standard
+input. Only the records on the way to the icon are judged; `icon-cache check`
+judges the whole cache.
+
+Exit status: 0 all found, 1 one absent or refused, 2 a file that can't be read.";
+
+pub const DIRS: &str = "\
+Lists the directories of a cache, each with its index.
+
+Usage: icon-cache dirs FILE
+
+A directory as FILE stands for the icon-theme.cache in it, and - for standard
+input.
+
+Exit status: 0 listed, 1 refused, 2 a file that can't be read.";

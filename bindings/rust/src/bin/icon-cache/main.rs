@@ -1,0 +1,43 @@
+//! The tool `icon-cache`: checks caches, looks up icons and lists directories.
+
+mod arguments;
+mod commands;
+mod help;
+mod input;
+mod output;
+mod show;
+
+use arguments::{Misuse, Request};
+use output::{Output, Status};
+use std::env;
+use std::process::ExitCode;
+
+fn main() -> ExitCode {
+    let mut output = Output::new();
+    let status = match arguments::parse(env::args_os().skip(1)) {
+        Ok(request) => answer(&mut output, request),
+        Err(misuse) => complain(&mut output, &misuse),
+    };
+    output.finish(status).into()
+}
+
+fn answer(output: &mut Output, request: Request) -> Status {
+    match request {
+        Request::Help(text) => say(output, text),
+        Request::Version => say(output, help::VERSION),
+        Request::Check(files) => commands::check(output, &files),
+        Request::Lookup { file, names } => commands::lookup(output, &file, &names),
+        Request::Dirs(file) => commands::dirs(output, &file),
+    }
+}
+
+fn say(output: &mut Output, text: &str) -> Status {
+    output.line(text);
+    Status::Good
+}
+
+fn complain(output: &mut Output, misuse: &Misuse) -> Status {
+    output.complain(&misuse.message);
+    output.complain(&format!("see `icon-cache {}--help`", misuse.command));
+    Status::Failed
+}

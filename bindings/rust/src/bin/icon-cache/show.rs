@@ -1,0 +1,90 @@
+//! How bytes, numbers and refusals are shown.
+
+use icon_cache::{Image, Refusal};
+use std::fmt::Write;
+
+/// Bytes of a path or a name. What a terminal may obey or not show at all is
+/// escaped, and so is what is not UTF-8.
+pub fn bytes(bytes: &[u8]) -> String {
+    let mut shown = String::new();
+    for chunk in bytes.utf8_chunks() {
+        shown.push_str(&text(chunk.valid()));
+        for byte in chunk.invalid() {
+            write!(shown, "\\x{byte:02X}").expect("a string takes all");
+        }
+    }
+    shown
+}
+
+/// The quotes are taken back: none stand around the text.
+fn text(text: &str) -> String {
+    let escaped = text.escape_debug().to_string();
+    escaped.replace("\\'", "'").replace("\\\"", "\"")
+}
+
+/// An offset in decimal and in hex.
+pub fn offset(offset: usize) -> String {
+    format!("{offset} (0x{offset:X})")
+}
+
+pub fn refusal(refusal: &Refusal) -> String {
+    let place = offset(refusal.place);
+    format!("rule {} at {place}: {refusal}", refusal.number)
+}
+
+/// A number of things: "1 icon", "3 icons".
+pub fn count(number: usize, one: &str, more: &str) -> String {
+    let things = if number == 1 { one } else { more };
+    format!("{number} {things}")
+}
+
+const FLAGS: [(u16, &str); 4] = [
+    (Image::BITMAP_SUFFIX, "bitmap suffix"),
+    (Image::XPM_SUFFIX, "XPM suffix"),
+    (Image::SVG_SUFFIX, "SVG suffix"),
+    (Image::ICON_FILE, "icon file"),
+];
+
+/// The flags as their sum and by name.
+pub fn flags(flags: u16) -> String {
+    let set = FLAGS.iter().filter(|(flag, _)| flags & flag != 0);
+    let names: Vec<&str> = set.map(|(_, name)| *name).collect();
+    match names.as_slice() {
+        [] => format!("flags {flags} (none)"),
+        names => format!("flags {flags} ({})", names.join(", ")),
+    }
+}
+
+#[cfg(test)]
+mod tests {
+    use super::{bytes, flags};
+
+    #[test]
+    fn plain_text_stays() {
+        let text = "scalable/Größe 'x' \"y\" 牛";
+        assert_eq!(bytes(text.as_bytes()), text);
+    }
+
+    #[test]
+    fn what_a_terminal_obeys_is_escaped() {
+        assert_eq!(bytes(b"\x1b[2J\x07\n\t"), "\\u{1b}[2J\\u{7}\\n\\t");
+        // C1 controls, and a mark that turns the direction of writing.
+        assert_eq!(bytes("\u{9b}2J".as_bytes()), "\\u{9b}2J");
+        assert_eq!(bytes("\u{202e}".as_bytes()), "\\u{202e}");
+    }
+
+    #[test]
+    fn what_is_not_utf_8_is_escaped() {
+        assert_eq!(bytes(b"a\x9b\xffb"), "a\\x9B\\xFFb");
+        // So no two texts are shown alike.
+        assert_eq!(bytes(b"\\xFF"), "\\\\xFF");
+        assert_eq!(bytes(b"\\'"), "\\\\'");
+    }
+
+    #[test]
+    fn flags_have_names() {
+        assert_eq!(flags(0), "flags 0 (none)");
+        assert_eq!(flags(5), "flags 5 (bitmap suffix, SVG suffix)");
+        assert_eq!(flags(10), "flags 10 (XPM suffix, icon file)");
+    }
+}
