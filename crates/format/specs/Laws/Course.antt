@@ -1,6 +1,6 @@
 -- What the first N steps of a chain can be like: one of four ways, and one is always at hand.
 use Prim.Native.Nat.{ℕ, zero, suc, _+_, _-_, _<_}
-use mathlib.Core.Path.{_≡_, refl, sym, ap, _∙_}
+use mathlib.Core.Path.{_≡_, refl, ap}
 use mathlib.Core.List.{List}
 use native.Mathlib.Omega.{arith}
 use native.Mathlib.Decide.{ℕ-discrete, decLe}
@@ -14,7 +14,7 @@ use Rattle.format.specs.Chain.{walkEnds, walkBucket}
 use Rattle.format.specs.Words.{link, linkField, Inside, Keeps, KeepsAt, KeepsBelow, NoneBelow, Holds, Breaks}
 use Rattle.format.specs.declared.Walk.{Walk}
 use Rattle.format.specs.declared.Ending.{Ending}
-use Rattle.format.specs.declared.Ending.the-variants.{Met, Broken}
+use Rattle.format.specs.declared.Ending.the-variants.{Ended, Met, Broken, Endless}
 use Rattle.format.specs.Laws.Below.{below-suc}
 use Rattle.format.specs.Laws.Faults.{orElse-next, orElse-first}
 use Rattle.format.specs.Laws.Names.{equal-or-not}
@@ -73,29 +73,19 @@ module _ (s name : List ℕ) (k : ℕ) where
       longer (breaks {n = n} l b none) = breaks {n = n} (omega arith) b none
       longer (lasts keeps none) = step N keeps none
 
-same-ending : {a b : Ending} {o p : ℕ} → walkEnds a o ≡ walkEnds b p → a ≡ b
-same-ending e = ap (λ (w : Walk). w .ending) e
-
 -- what the end of a walk tells of the record that it stopped at
-module _ (s name : List ℕ) (k o : ℕ) {p : ℕ} where
-  module _ {e : Ending} (q : walkBucket s name k o ≡ walkEnds e p) where
-    was : {a : Ending} {u : ℕ} → walkBucket s name k o ≡ walkEnds a u → a ≡ e
-    was h = same-ending (sym h ∙ q)
+abbrev pub Told : List ℕ → ℕ → Ending → Type 0
+Told s k Ended = Unit {0}
+Told s k (Met r) = Keeps s k r
+Told s k (Broken x p) = 0 < x
+Told s k Endless = Unit {0}
 
-  pub met-keeps : {r : ℕ} → walkBucket s name k o ≡ walkEnds (Met r) p → Keeps s k r
-  met-keeps {r} e = go (course s name k (length s - 10 - o))
-    where
-      go : Course s name k (length s - 10 - o) → Keeps s k r
-      go (ends l h none) = let z : _≡_ {A = ℕ} 0 1 = cc (was e (walk-ends s name k o l h none)) in absurd (omega arith)
-      go (meets {n = n} l keeps none here same) = let z : link s k n ≡ r = cc (was e (walk-meets s name k o l keeps none here same)) in rw (← z) (here .1)
-      go (breaks l b none) = let z : _≡_ {A = ℕ} 0 1 = cc (was e (walk-breaks s name k o l b none)) in absurd (omega arith)
-      go (lasts keeps none) = let z : _≡_ {A = ℕ} 0 1 = cc (was e (walk-lasts s name k o _ keeps none)) in absurd (omega arith)
+module _ (s name : List ℕ) (k o : ℕ) where
+  told : Course s name k (length s - 10 - o) → Told s k (walkBucket s name k o .ending)
+  told (ends l h none) = rw (walk-ends s name k o l h none) tt
+  told (meets l keeps none here same) = rw (walk-meets s name k o l keeps none here same) (here .1)
+  told (breaks l b none) = rw (walk-breaks s name k o l b none) (b .some)
+  told (lasts keeps none) = rw (walk-lasts s name k o (length s - 10 - o) keeps none) tt
 
-  pub broken-some : {x q : ℕ} → walkBucket s name k o ≡ walkEnds (Broken x q) p → x ≡ 0 → ⊥
-  broken-some {x} e zero-x = go (course s name k (length s - 10 - o))
-    where
-      go : Course s name k (length s - 10 - o) → ⊥
-      go (ends l h none) = let z : _≡_ {A = ℕ} 0 1 = cc (was e (walk-ends s name k o l h none)) in omega arith
-      go (meets l keeps none here same) = let z : _≡_ {A = ℕ} 0 1 = cc (was e (walk-meets s name k o l keeps none here same)) in omega arith
-      go (breaks {x = y} l b none) = let z : y ≡ x = cc (was e (walk-breaks s name k o l b none)) in omega (arith, b .some)
-      go (lasts keeps none) = let z : _≡_ {A = ℕ} 0 1 = cc (was e (walk-lasts s name k o _ keeps none)) in omega arith
+  pub walk-tells : {e : Ending} {p : ℕ} → walkBucket s name k o ≡ walkEnds e p → Told s k e
+  walk-tells q = rw (ap (λ (w : Walk). w .ending) q) at (told (course s name k (length s - 10 - o)))

@@ -18,7 +18,7 @@ use Rattle.format.specs.declared.LookupAnswer.{LookupAnswer}
 use Rattle.format.specs.Laws.Strings.{allowed-string}
 use Rattle.format.specs.Laws.Header.{header-right}
 use Rattle.format.specs.Laws.Links.{keeps-listed}
-use Rattle.format.specs.Laws.Course.{met-keeps, broken-some}
+use Rattle.format.specs.Laws.Course.{walk-tells}
 use Rattle.format.specs.Laws.Lookup.{query-asks, lookup-refuses, lookup-ends, answer-keeps}
 use Rattle.format.specs.Laws.Demand.{lookup-demand}
 use Rattle.tables.specs.Tables.{Right}
@@ -85,7 +85,10 @@ enum-known-ending c = search needs
 
 found-requires : tie.Need-found-requires
 found-requires c κs =
-    let keeps = met-keeps _ _ _ _ (walked (c .before .before .before .before) (c .before .before .ending .given .1)) in
+    let w = c .before .before .before .before in
+    let a = w .before .before .before .before .before .before .before .before .before .args in
+    let met = walked w (c .before .before .ending .given .1) in
+    let keeps = walk-tells (now (a .cache)) (now (a .name)) (bucketOf (now (a .cache)) (now (a .name))) 0 met in
     (keeps .inside, keeps-listed keeps)
 
 enum-known-ending-2 : tie.Need-enum-known-ending-2
@@ -128,7 +131,7 @@ returns-3 c =
     let a = w .before .before .before .before .before .before .before .before .before .args in
     let broken = walked w (c .before .before .ending2 .given .1) in
     refuses _ _ _ (c .not-found2 .ensures) (lookup-ends _ _ _ (asks (w .before .before .before)) broken)
-    (broken-some (now (a .cache)) (now (a .name)) (bucketOf (now (a .cache)) (now (a .name))) 0 broken)
+    (λ z. omega (arith, walk-tells (now (a .cache)) (now (a .name)) (bucketOf (now (a .cache)) (now (a .name))) 0 broken))
 
 returns-4 : tie.Need-returns-4
 unfolding lookupEnds
