@@ -66,6 +66,3 @@ ifKept-none x n h = go (x .number) h
     go : (m : ℕ) → (m ≡ 0 → ⊥) → _≡_ {A = ℕ} (elim m as (λ k. ℕ) [ zero ↦ n | suc k ↦ 0 ]) 0
     go zero nz = absurd (nz refl)
     go (suc m) nz = refl
-
-pub ifKept-all : (x : Fault) (n : ℕ) → x .number ≡ 0 → ifKept x n ≡ n
-ifKept-all x n e = rw e
