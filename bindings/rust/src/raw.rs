@@ -103,32 +103,41 @@ fn address(bytes: &[u8]) -> *const u8 {
     }
 }
 
+// The answers are written to variables of their own and not to the fields of a
+// struct: where the compiler copies a struct by parts wider than those that were
+// written, the processor waits for the writes.
+
 /// Checks the whole cache.
+#[inline]
 pub fn check(cache: &[u8]) -> Check {
-    let mut answer = Check {
-        number: 0,
-        place: UNWRITTEN,
-        directories: UNWRITTEN,
-        icons: UNWRITTEN,
-        opened: UNWRITTEN,
-    };
+    let mut place = UNWRITTEN;
+    let mut directories = UNWRITTEN;
+    let mut icons = UNWRITTEN;
+    let mut opened = UNWRITTEN;
     // SAFETY: the pointers are valid for the lengths given and for this call,
     // and only the four numbers are written.
-    answer.number = unsafe {
+    let number = unsafe {
         c::icon_cache_check(
             address(cache),
             cache.len(),
-            &mut answer.place,
-            &mut answer.directories,
-            &mut answer.icons,
-            &mut answer.opened,
+            &mut place,
+            &mut directories,
+            &mut icons,
+            &mut opened,
         )
     };
-    answer
+    Check {
+        number,
+        place,
+        directories,
+        icons,
+        opened,
+    }
 }
 
 /// Looks up one icon name. Two words are needed for each image; with any other
 /// number than 0 the words stay as they were.
+#[inline]
 pub fn lookup(cache: &[u8], name: &[u8], words: &mut [u32]) -> Lookup {
     let mut no_words = 0;
     let lent = if words.is_empty() {
@@ -136,15 +145,12 @@ pub fn lookup(cache: &[u8], name: &[u8], words: &mut [u32]) -> Lookup {
     } else {
         words.as_mut_ptr()
     };
-    let mut answer = Lookup {
-        number: 0,
-        place: UNWRITTEN,
-        images: UNWRITTEN,
-        opened: UNWRITTEN,
-    };
+    let mut place = UNWRITTEN;
+    let mut images = UNWRITTEN;
+    let mut opened = UNWRITTEN;
     // SAFETY: the pointers are valid for the lengths given and for this call,
     // and only the lent words and the three numbers are written.
-    answer.number = unsafe {
+    let number = unsafe {
         c::icon_cache_lookup(
             address(cache),
             cache.len(),
@@ -152,44 +158,42 @@ pub fn lookup(cache: &[u8], name: &[u8], words: &mut [u32]) -> Lookup {
             name.len(),
             lent,
             words.len(),
-            &mut answer.place,
-            &mut answer.images,
-            &mut answer.opened,
+            &mut place,
+            &mut images,
+            &mut opened,
         )
     };
-    answer
+    Lookup {
+        number,
+        place,
+        images,
+        opened,
+    }
 }
 
 /// Gives the answer number for one directory index.
+#[inline]
 pub fn directory(cache: &[u8], index: usize) -> Directory {
-    let mut answer = Directory {
-        number: 0,
-        place: UNWRITTEN,
-    };
+    let mut place = UNWRITTEN;
     // SAFETY: the pointers are valid for the length given and for this call,
     // and only the place is written.
-    answer.number =
-        unsafe { c::icon_cache_directory(address(cache), cache.len(), index, &mut answer.place) };
-    answer
+    let number = unsafe { c::icon_cache_directory(address(cache), cache.len(), index, &mut place) };
+    Directory { number, place }
 }
 
 /// Gives the part of the cache that holds the path of one directory.
+#[inline]
 pub fn directory_path(cache: &[u8], index: usize) -> Path {
-    let mut answer = Path {
-        number: 0,
-        start: UNWRITTEN,
-        length: UNWRITTEN,
-    };
+    let mut start = UNWRITTEN;
+    let mut length = UNWRITTEN;
     // SAFETY: the pointers are valid for the length given and for this call,
     // and only the two numbers are written.
-    answer.number = unsafe {
-        c::icon_cache_directory_path(
-            address(cache),
-            cache.len(),
-            index,
-            &mut answer.start,
-            &mut answer.length,
-        )
+    let number = unsafe {
+        c::icon_cache_directory_path(address(cache), cache.len(), index, &mut start, &mut length)
     };
-    answer
+    Path {
+        number,
+        start,
+        length,
+    }
 }

@@ -5,6 +5,7 @@
 pub mod Faults
 pub mod Reads
 pub mod Strings
+pub mod Hashes
 pub mod Names
 pub mod Header
 pub mod Paths

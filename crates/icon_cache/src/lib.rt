@@ -5,7 +5,7 @@ ghost use Prim.Native.Nat.{_+_, _*_, _≤_};
 ghost use lib.ListN.{length};
 ghost use Rattle.format.specs.Header.{buckets};
 ghost use Rattle.format.specs.Record.{imagesAt, images};
-ghost use Rattle.format.specs.Call.{checked, checkBuckets, queryFault, lookedUp, metAnswer, answerWords, lookupWords, partIs, directoryPart, directoryPath};
+ghost use Rattle.format.specs.Call.{checked, checkBuckets, lookedUp, metAnswer, answerWords, lookupWords, partIs, directoryPart, directoryPath};
 ghost use Rattle.format.specs.Call as calls;
 ghost use Rattle.format.specs.Words.{CheckDemand, LookupKept};
 ghost use Rattle.tables.specs.Tables.{Right};
@@ -93,19 +93,6 @@ pub fn check(cache: &[u8]) -> CheckAnswer
     check_buckets(cache, t)
 }
 
-// What is judged of a lookup before its walk: whether the name may be asked for, then the rules 1 to 5.
-fn query(cache: &[u8], name: &[u8]) -> Fault
-    ensures { λ r. ⌜ r ≡ queryFault (now (cache .entry)) (now (name .entry)) ⌝ }
-{
-    if !text::allowed(name) {
-        return Fault {
-            number: 13,
-            place: 0,
-        };
-    }
-    tables::header(cache)
-}
-
 // The answer where the walk met the record at `met`, after `opened` records. Its images go into `words` if there is room for all.
 fn found(cache: &[u8], met: usize, opened: usize, words: &mut [u32]) -> LookupAnswer
     requires { ⌜ met + 12 ≤ length (now cache) ⌝ }
@@ -151,13 +138,16 @@ pub fn lookup(cache: &[u8], name: &[u8], words: &mut [u32]) -> LookupAnswer
     ensures lent { λ r. ⌜ now (words .exit) ≡ lookupWords (now (cache .entry)) (now (name .entry)) (now (words .entry)) ⌝ }
     ensures demand { λ r. ⌜ LookupKept (now (cache .entry)) (now (name .entry)) r ⌝ }
 {
-    let fault = query(cache, name);
-    if fault.number != 0 {
-        return not_found(fault.number, fault.place, 0);
+    let query = text::asked(name);
+    if !query.allowed {
+        return not_found(13, 0, 0);
+    }
+    let header = tables::header(cache);
+    if header.number != 0 {
+        return not_found(header.number, header.place, 0);
     }
     let t = tables::read(cache);
-    let buckets = t.buckets;
-    let bucket = records::bucket_of(name, buckets);
+    let bucket = query.hash as usize % t.buckets;
     let walk = chains::walk(cache, t, bucket, name, 0);
     let opened = walk.opened;
     let ending = walk.ending;

@@ -2,35 +2,68 @@
 ghost use mathlib.Core.Path.{_≡_};
 ghost use mathlib.Core.List.{_++_};
 ghost use mathlib.Core.Bool.{_&&_};
-ghost use Prim.Native.Nat.{_+_, _*_, _^_, _≤_, _<_, _%_};
+ghost use Prim.Native.Nat.{_+_, _*_, _^_, _≤_, _<_};
 ghost use lib.ListN.{length, drop};
 ghost use lib.Dec.{leb};
 ghost use Rattle.format.specs.Number.{be, listInside};
-ghost use Rattle.format.specs.Text.{string, sameBytes, hash};
+ghost use Rattle.format.specs.Text.{sameBytes};
 ghost use Rattle.format.specs.Header.{directories};
-ghost use Rattle.format.specs.Record.{nameOf, indexRight, imageRight, imagesFault, recordFault, imageWords};
+ghost use Rattle.format.specs.Record.{nameOf, imageRight, imagesFault, recordFault, imageWords};
 ghost use Rattle.tables.specs.Tables.{Right};
+ghost use Rattle.records.specs.RightWords.{rightWords};
 use bigendian::u16_at;
 use bigendian::u32_at;
 use format::Fault;
+use format::Text;
+use std::num::wrapping_sub_u32;
 use tables::Tables;
 use tables::list_inside;
 
-// Whether `index` is one that an image may have where there are `n` directories.
-fn index_right(n: usize, index: usize) -> bool
-    ensures { λ r. ⌜ r ≡ indexRight n index ⌝ }
-{
-    if n == 0 { index == 0xFFFF } else { index < n }
+// The first words of images whose index is right: `span` of them from `first` on. The index is the high half of the word, so those words follow one
+// another and one test settles the index of an image.
+struct RightWords {
+    first: u32,
+    span: u32,
 }
 
-// Rule 11 on the image at `at`, where there are `n` directories.
-fn image_right(cache: &[u8], n: usize, at: usize) -> bool
-    requires { ⌜ (n ≡ directories (now cache)) × (at + 8 ≤ length (now cache)) ⌝ }
+// The right first words where there are `n` directories.
+fn right_words(n: usize) -> RightWords
+    requires { ⌜ n < 65536 ⌝ }
+    ensures { λ r. ⌜ r ≡ rightWords n ⌝ }
+{
+    if n == 0 {
+        RightWords {
+            first: 0xFFFF_0000,
+            span: 0x1_0000,
+        }
+    } else {
+        RightWords {
+            first: 0,
+            span: n as u32 * 0x1_0000,
+        }
+    }
+}
+
+// The first word of the image at `at`: its index times 65,536 plus its flags.
+fn first_word(cache: &[u8], at: usize) -> u32
+    requires { ⌜ at + 8 ≤ length (now cache) ⌝ }
+    ensures word { λ r. ⌜ r ≡ be 2 (now (cache .entry)) at * 65536 + be 2 (now (cache .entry)) (at + 2) ⌝ }
+    ensures flags { λ r. ⌜ be 2 (now (cache .entry)) (at + 2) < 65536 ⌝ }
+{
+    let index = u16_at(cache, at) as u32;
+    let flags = u16_at(cache, at + 2) as u32;
+    index * 0x1_0000 + flags
+}
+
+// Rule 11 on the image at `at`, where `right` are the right first words.
+fn image_right(cache: &[u8], right: RightWords, at: usize) -> bool
+    requires { ⌜ (directories (now cache) < 65536) × (right ≡ rightWords (directories (now cache))) ⌝ }
+    requires { ⌜ at + 8 ≤ length (now cache) ⌝ }
     ensures { λ r. ⌜ r ≡ imageRight (now (cache .entry)) at ⌝ }
 {
-    let index = u16_at(cache, at) as usize;
-    if index_right(n, index) {
-        u16_at(cache, at + 2) <= 15
+    let word = first_word(cache, at);
+    if wrapping_sub_u32(word, right.first) < right.span {
+        word % 0x1_0000 <= 15
     } else {
         false
     }
@@ -38,13 +71,14 @@ fn image_right(cache: &[u8], n: usize, at: usize) -> bool
 
 // The first of `m` images from `at` on that breaks rule 11, where there are `n` directories.
 fn images(cache: &[u8], n: usize, m: usize, at: usize) -> Fault
-    requires { ⌜ (n ≡ directories (now cache)) × (at + 8 * m ≤ length (now cache)) ⌝ }
+    requires { ⌜ (n < 65536) × (n ≡ directories (now cache)) × (at + 8 * m ≤ length (now cache)) ⌝ }
     ensures { λ r. ⌜ r ≡ imagesFault m (now (cache .entry)) at ⌝ }
 {
+    let right = right_words(n);
     let mut left = m;
     let mut here = at;
     while 0 < left {
-        if !image_right(cache, n, here) {
+        if !image_right(cache, right, here) {
             return Fault {
                 number: 11,
                 place: here,
@@ -80,29 +114,21 @@ fn name_part(cache: &[u8], offset: usize) -> &[u8]
     text::from(cache, at)
 }
 
-// The bucket of the string at the front of `part`, of `buckets` buckets.
-pub fn bucket_of(part: &[u8], buckets: usize) -> usize
-    requires { ⌜ 0 < buckets ⌝ }
-    ensures { λ r. ⌜ r ≡ hash (string (now (part .entry))) % buckets ⌝ }
-{
-    text::hash(part) as usize % buckets
-}
-
 // The first of the rules 8 to 11 that the record at `offset` breaks, on the chain of `bucket`.
 pub fn judge(cache: &[u8], t: Tables, bucket: usize, offset: usize) -> Fault
     requires { ⌜ Right (now cache) t ⌝ }
     requires { ⌜ offset + 12 ≤ length (now cache) ⌝ }
     ensures { λ r. ⌜ r ≡ recordFault (now (cache .entry)) bucket offset ⌝ }
 {
-    let name = name_part(cache, offset);
-    if !text::whole(name, 255) {
+    let name = text::read_name(name_part(cache, offset));
+    let text = name.text;
+    let Text::Whole(_) = text else {
         return Fault {
             number: 8,
             place: offset + 4,
         };
-    }
-    let buckets = t.buckets;
-    if bucket_of(name, buckets) != bucket {
+    };
+    if name.hash as usize % t.buckets != bucket {
         return Fault {
             number: 9,
             place: offset + 4,
@@ -127,16 +153,6 @@ pub fn bears(cache: &[u8], offset: usize, name: &[u8]) -> bool
 {
     let part = name_part(cache, offset);
     text::same(part, name)
-}
-
-// The first word of the image at `at`: its index times 65,536 plus its flags.
-fn first_word(cache: &[u8], at: usize) -> u32
-    requires { ⌜ at + 8 ≤ length (now cache) ⌝ }
-    ensures { λ r. ⌜ r ≡ be 2 (now (cache .entry)) at * 65536 + be 2 (now (cache .entry)) (at + 2) ⌝ }
-{
-    let index = u16_at(cache, at) as u32;
-    let flags = u16_at(cache, at + 2) as u32;
-    index * 65536 + flags
 }
 
 // Puts the two words of each of `m` images from `at` on into `words`, from the last image to the first, and leaves the words beyond as

@@ -1,13 +1,24 @@
-// Strings that end in a zero byte: what one is, the hash of a name, whether a name is the one asked for, and whether it may be asked for.
+// Strings that end in a zero byte: what one is, a name with its hash, whether a name is the one asked for, and whether it may be asked for.
 // A string is handed over as the part of the buffer from its offset on.
 ghost use mathlib.Core.Path.{_≡_};
 ghost use Prim.Native.Nat.{_*_, _%_, _^_};
-ghost use lib.ListN.{drop};
-ghost use Rattle.format.specs.Text.{string, text, isWhole, sameBytes};
-ghost use Rattle.format.specs.Text as names;
+ghost use lib.ListN.{take, drop};
+ghost use Rattle.format.specs.Text.{string, text, sameBytes, hash, allowed};
 use format::Text;
 use std::num::wrapping_add_u32;
 use std::num::wrapping_sub_u32;
+
+// A string as a name, and the hash of its first 255 bytes: of all of them, unless it is too long.
+pub struct Name {
+    pub text: Text,
+    pub hash: u32,
+}
+
+// Whether a name may be asked for, and its hash where it may.
+pub struct Query {
+    pub allowed: bool,
+    pub hash: u32,
+}
 
 // The part of `cache` from the offset `at` on, which is empty past the end.
 pub fn from(cache: &[u8], at: usize) -> &[u8]
@@ -37,16 +48,6 @@ pub fn scan(part: &[u8], limit: usize) -> Text
     Text::Cut
 }
 
-// Whether the string at the front of `part` is whole, within `limit`.
-pub fn whole(part: &[u8], limit: usize) -> bool
-    ensures { λ r. ⌜ r ≡ isWhole (text limit (now (part .entry))) ⌝ }
-{
-    match scan(part, limit) {
-        Text::Whole(_) => true,
-        _ => false,
-    }
-}
-
 // 31 times `h`, modulo 2^32.
 fn times31(h: u32) -> u32
     ensures { λ r. ⌜ r ≡ (31 * h) % 2 ^ 32 ⌝ }
@@ -59,27 +60,33 @@ fn times31(h: u32) -> u32
     wrapping_sub_u32(times32, h)
 }
 
-// The hash of the string at the front of `part`; 0 where it is empty.
-pub fn hash(part: &[u8]) -> u32
-    ensures { λ r. ⌜ r ≡ names.hash (string (now (part .entry))) ⌝ }
+// What the string at the front of `part` is as a name, and its hash. One loop serves both: most of a lookup is the reading of the names that it
+// passes. No more than 256 bytes are read.
+pub fn read_name(part: &[u8]) -> Name
+    ensures text { λ r. ⌜ r .text ≡ text 255 (now (part .entry)) ⌝ }
+    ensures hash { λ r. ⌜ r .hash ≡ hash (take 255 (string (now (part .entry)))) ⌝ }
 {
-    if part.len() == 0 {
-        return 0;
-    }
-    let mut h = part[0] as u32;
-    if h == 0 {
-        return 0;
-    }
-    let mut i = 1;
+    let mut hash = 0;
+    let mut i = 0;
     while i < part.len() {
         let byte = part[i] as u32;
         if byte == 0 {
-            return h;
+            let text = if i == 0 { Text::Empty } else { Text::Whole(i) };
+            return Name { text, hash };
         }
-        h = wrapping_add_u32(times31(h), byte);
+        if i == 255 {
+            return Name {
+                text: Text::Long,
+                hash,
+            };
+        }
+        hash = wrapping_add_u32(times31(hash), byte);
         i += 1;
     }
-    h
+    Name {
+        text: Text::Cut,
+        hash,
+    }
 }
 
 // Whether the string at the front of `part` is `name`: as long, and byte for byte the same.
@@ -102,15 +109,28 @@ pub fn same(part: &[u8], name: &[u8]) -> bool
     i == name.len()
 }
 
-// Whether `name` may be asked for: 1 to 255 bytes, none of them zero.
-pub fn allowed(name: &[u8]) -> bool
-    ensures { λ r. ⌜ r ≡ names.allowed (now (name .entry)) ⌝ }
+// Whether `name` may be asked for, with 1 to 255 bytes and none of them zero, and its hash.
+pub fn asked(name: &[u8]) -> Query
+    ensures allowed { λ r. ⌜ r .allowed ≡ allowed (now (name .entry)) ⌝ }
+    ensures hash { λ r. ⌜ r .hash ≡ hash (take 255 (string (now (name .entry)))) ⌝ }
 {
+    let read = read_name(name);
+    let hash = read.hash;
+    let text = read.text;
     if name.len() == 0 {
-        return false;
+        return Query {
+            allowed: false,
+            hash,
+        };
     }
-    match scan(name, 255) {
-        Text::Cut => true,
-        _ => false,
+    match text {
+        Text::Cut => Query {
+            allowed: true,
+            hash,
+        },
+        _ => Query {
+            allowed: false,
+            hash,
+        },
     }
 }

@@ -7,7 +7,7 @@ use native.Mathlib.Numerals.{add-one}
 use native.Mathlib.Omega.{arith}
 use borrow.Author.Tests.{lt-ltb, le-ltb, le-leb, lt-leb, ne-eqb, ltb-true, ltb-false, leb-true, leb-false, eqb-true, eqb-false}
 use lib.ListN.{length, take, drop, getD, List·getD-eq-default}
-use lib.Seq.{take-length}
+use lib.Seq.{take-all, take-length, take-take}
 use lib.Dec.{ltb, leb, eqb}
 use Rattle.format.specs.Choice.{if_then_else_}
 use Rattle.format.specs.Text.{string, text, isWhole, allowed}
@@ -44,6 +44,13 @@ unfolding string
 string-front [] = refl
 string-front (zero ∷ t) = refl
 string-front (suc b ∷ t) = ap (λ s. suc b ∷ s) (string-front t)
+
+-- as many bytes of the string as were read, within the limit: all of them, or the limit's
+pub string-read : (limit : ℕ) (t : List ℕ) (i : ℕ) → i ≤ limit → length (string t) ≡ i → take limit (string t) ≡ take i t
+string-read limit t i h e = take-all limit (string t) (omega arith) ∙ sym (string-front t) ∙ ap (λ n. take n t) e
+
+pub string-filled : (limit : ℕ) (t : List ℕ) → limit ≤ length (string t) → take limit (string t) ≡ take limit t
+string-filled limit t h = ap (take limit) (sym (string-front t)) ∙ take-take limit (length (string t)) t h
 
 -- what a whole string is: it has bytes, no more than the limit, and a zero byte stands after them
 pub record Named (limit : ℕ) (t : List ℕ) : Type 0 where
@@ -103,9 +110,16 @@ whole-named limit t e = go (judged limit t) e
     go (empty h g) q = absurd (false≢true q)
     go (whole g h) q = h
 
--- a name that may be asked for is its own string: no zero byte cuts it
+-- a name that may be asked for is its own string, since no zero byte cuts it, and it is not too long
 pub allowed-string : (name : List ℕ) → allowed name ≡ true → string name ≡ name
 unfolding allowed
 allowed-string name e =
     let same : length (string name) ≡ length name = eqb-true _ _ (and-eq-true-iff (ltb 0 (length name) && leb (length name) 255) _ .0 e .1) in
     sym (string-front name) ∙ rw same (take-length name)
+
+pub allowed-short : (name : List ℕ) → allowed name ≡ true → length (string name) ≤ 255
+unfolding allowed
+allowed-short name e =
+    let sized = and-eq-true-iff (ltb 0 (length name) && leb (length name) 255) _ .0 e .0 in
+    let short : length name ≤ 255 = leb-true _ _ (and-eq-true-iff (ltb 0 (length name)) _ .0 sized .1) in
+    omega (arith, string-fits name)

@@ -1,26 +1,33 @@
 -- `records::images` meets its contract. The loop's invariant: the rest equals the whole, what is judged of the images left is what was
 -- asked of all of them. Rests on the laws `images-end`, `images-stop` and `images-go-on`.
 use Prim.Native.Nat.{_+_, _-_, _*_, _≤_}
-use mathlib.Core.Path.{_≡_, refl, sym, _∙_}
+use mathlib.Core.Path.{_≡_, refl, sym, ap, _∙_}
 use native.Mathlib.Omega.{arith}
 use borrow.Author.Needs.{needs}
 use lib.ListN.{length}
 use Rattle.format.specs.Record.{imagesFault}
 use Rattle.format.specs.Laws.Images.{images-end, images-stop, images-go-on}
+use Rattle.records.specs.RightWords.{rightWords}
 use Rattle.records.proofs.images.Statement.{statement}
 use Rattle.records.proofs.images.Tie as tie
 
 abbrev Inv-loop : tie.InvT-loop
-Inv-loop cache n m at left₀ here₀ left here = (here + 8 * left ≤ length cache) × (imagesFault left cache here ≡ imagesFault m cache at)
+Inv-loop cache n m at right left₀ here₀ left here = (here + 8 * left ≤ length cache) × (imagesFault left cache here ≡ imagesFault m cache at)
 
 abbrev μ-loop : tie.MeasureT-loop
-μ-loop cache n m at left₀ here₀ left here = left
+μ-loop cache n m at right left₀ here₀ left here = left
+
+right-words-requires : tie.Need-right-words-requires Inv-loop μ-loop
+right-words-requires c κs = search needs
 
 loop-holds : tie.Need-loop-holds Inv-loop μ-loop
 loop-holds c = (omega arith, refl)
 
 image-right-requires : tie.Need-image-right-requires Inv-loop μ-loop
-image-right-requires c κs = search needs
+image-right-requires c κs =
+    let words = c .before .before in
+    let pre = words .before .before .pre in
+    ((omega (arith, pre), words .right-words .ensures ∙ ap rightWords (pre .1)), omega arith)
 
 returns : tie.Need-returns Inv-loop μ-loop
 returns c =
@@ -50,6 +57,7 @@ images-spec =
     (tie.spec
     Inv-loop
     μ-loop
+    right-words-requires
     loop-holds
     image-right-requires
     returns

@@ -95,7 +95,7 @@ loop-again c =
           (omega arith)
           (omega arith)
           (omega arith)
-          (c .before .first-word .ensures)
+          (c .before .first-word .ensures .0)
           (c .u32-at .ensures)
           (l .loop .inv .2),
     )

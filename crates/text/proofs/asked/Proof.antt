@@ -1,5 +1,5 @@
--- `text::allowed` meets its contract. A name that has bytes is allowed just where `scan` with the limit 255 finds it cut off: no zero byte came, and
--- no more bytes than that are there. Rests on `judged` and `string-fits`.
+-- `text::asked` meets its contract. A name that has bytes is allowed just where `read_name` finds it cut off: no zero byte came, and no more than
+-- 255 bytes are there. Rests on `judged` and `string-fits`.
 use Prim.Native.Nat.{ℕ, _<_, _≤_}
 use mathlib.Core.Path.{_≡_, sym, _∙_}
 use mathlib.Core.Logic.{⊎-elim}
@@ -15,8 +15,8 @@ use Rattle.format.proofs.Text.{the-type}
 use Rattle.format.specs.declared.Text.{Text}
 use Rattle.format.specs.Text.{string, text, allowed}
 use Rattle.format.specs.Laws.Strings.{string-fits, Judged, judged, long, cut, empty, whole}
-use Rattle.text.proofs.allowed.Statement.{statement}
-use Rattle.text.proofs.allowed.Tie as tie
+use Rattle.text.proofs.asked.Statement.{statement}
+use Rattle.text.proofs.asked.Tie as tie
 
 -- 3 is the number of `Cut` among the answers, which are counted from 0
 allowed-where-cut : (name : List ℕ) {r : Text} → 0 < length name → r ≡ text 255 name → allowed name ≡ eqb (tagOf the-type r) 3
@@ -32,28 +32,30 @@ allowed-where-cut name some a = rw a (go (judged 255 name))
     go (empty h e) = let d : length (string name) ≡ length name → ⊥ = λ q. omega arith in rw (allowed, ne-eqb _ _ d, and-false)
     go (whole e h) = let d : length (string name) ≡ length name → ⊥ = λ q. omega arith in rw (allowed, ne-eqb _ _ d, and-false)
 
+read-name-requires : tie.Need-read-name-requires
+read-name-requires c κs = search needs
+
 returns : tie.Need-returns
 unfolding allowed
-returns c = simp (c .if1 .taken)
-
-scan-requires : tie.Need-scan-requires
-scan-requires c κs = search needs
+returns c = (simp (c .if1 .taken), c .before .read-name .ensures .1)
 
 enum-told : tie.Need-enum-told
 enum-told c = search needs
 
 returns-2 : tie.Need-returns-2
 returns-2 c =
+    let read = c .before .before .before .read-name in
     let name = c .before .before .before .before .before .args .name .now in
     let some : 0 < length name = omega arith in
-    sym (allowed-where-cut name some (c .before .before .scan .ensures) ∙ eq-eqb _ _ (c .before .match .keys1))
+    (sym (allowed-where-cut name some (read .ensures .0) ∙ eq-eqb _ _ (c .before .match .keys1)), read .ensures .1)
 
 returns-3 : tie.Need-returns-3
 returns-3 c =
+    let read = c .before .before .read-name in
     let name = c .before .before .before .before .args .name .now in
     let some : 0 < length name = omega arith in
-    let other : tagOf the-type (c .before .scan .result) ≡ 3 → ⊥ = λ e. ⊎-elim (λ k. omega arith) (⊎-elim (λ k. omega arith) (λ k. omega arith)) (c .match .keys2) in
-    sym (allowed-where-cut name some (c .before .scan .ensures) ∙ ne-eqb _ _ other)
+    let other : tagOf the-type (read .result .text) ≡ 3 → ⊥ = λ e. ⊎-elim (λ k. omega arith) (⊎-elim (λ k. omega arith) (λ k. omega arith)) (c .match .keys2) in
+    (sym (allowed-where-cut name some (read .ensures .0) ∙ ne-eqb _ _ other), read .ensures .1)
 
-pub allowed-spec : {M : Type 1} → statement M
-allowed-spec = tie.close (tie.spec returns scan-requires enum-told returns-2 returns-3)
+pub asked-spec : {M : Type 1} → statement M
+asked-spec = tie.close (tie.spec read-name-requires returns enum-told returns-2 returns-3)

@@ -1,0 +1,118 @@
+-- `text::read_name` meets its contract. The bytes passed and those of the string of the rest are together as many as the whole string's, so at
+-- each `return` its length is known, and the hash so far is that of the bytes passed. Rests on `string-stops`, `string-ends`, `string-goes-on`,
+-- `judgement` for the answer, `hash-one-more`, and on what `times31` ensures.
+use Prim.Native.Nat.{ℕ, _+_, _-_, _*_, _%_, _^_, _≤_, _<_}
+use mathlib.Core.Path.{_≡_, refl, sym, ap, _∙_}
+use mathlib.Core.List.{List}
+use native.Mathlib.Nat.{mod-add-mod}
+use native.Mathlib.Omega.{arith}
+use borrow.Author.Needs.{needs}
+use lib.ListN.{length, take, drop, getD}
+use Rattle.format.specs.Text.{string, hash}
+use Rattle.format.specs.Laws.Strings.{string-stops, string-ends, string-goes-on, string-read, string-filled, judgement, long, cut, empty, whole}
+use Rattle.format.specs.Laws.Hashes.{hash-one-more}
+use Rattle.text.proofs.read_name.Statement.{statement}
+use Rattle.text.proofs.read_name.Tie as tie
+
+-- `wrapped` is the multiple and `next` the hash after one more byte
+one-byte : (t : List ℕ) (i : ℕ) {h wrapped next : ℕ} → i < length t → getD t i 0 < 2 ^ 32 → h ≡ hash (take i t) → wrapped ≡ (31 * h) % 2 ^ 32
+    → next ≡ (wrapped + getD t i 0) % 2 ^ 32 → next ≡ hash (take (i + 1) t)
+one-byte t i l small e m n = n ∙ rw (m, mod-add-mod, e) (sym (hash-one-more t i l small))
+
+-- where the string ends after i bytes, and where it goes on beyond the limit
+hash-of-all : (t : List ℕ) (i : ℕ) {h : ℕ} → i ≤ 255 → length (string t) ≡ i → h ≡ hash (take i t) → h ≡ hash (take 255 (string t))
+hash-of-all t i l e h = h ∙ ap hash (sym (string-read 255 t i l e))
+
+hash-of-front : (t : List ℕ) {i h : ℕ} → i ≡ 255 → 255 ≤ length (string t) → h ≡ hash (take i t) → h ≡ hash (take 255 (string t))
+hash-of-front t e l h = h ∙ rw e (ap hash (sym (string-filled 255 t l)))
+
+abbrev Inv-loop : tie.InvT-loop
+Inv-loop part hash₀ i₀ h i =
+    (i ≤ length part) × (i ≤ 255) × (i + length (string (drop i part)) ≡ length (string part)) × (h ≡ hash (take i part))
+
+abbrev μ-loop : tie.MeasureT-loop
+μ-loop part hash₀ i₀ h i = length part - i
+
+loop-holds : tie.Need-loop-holds Inv-loop μ-loop
+unfolding hash
+loop-holds c = (omega arith, omega arith, omega arith, refl)
+
+shared-slice-read-byte : tie.Need-shared-slice-read-byte Inv-loop μ-loop
+shared-slice-read-byte c = search needs
+
+cast-byte : tie.Need-cast-byte Inv-loop μ-loop
+cast-byte c = omega (arith, c .shared-slice-known2 .given (c .before .before .loop .i))
+
+returns : tie.Need-returns Inv-loop μ-loop
+returns c =
+    let l = c .before .before .before .before in
+    let t = l .before .before .args .part .now in
+    let e = ap length (string-stops t (l .loop .i) (c .before .if1 .taken)) in
+    (judgement _ _ (empty (omega arith) (omega arith)), hash-of-all t (l .loop .i) (omega arith) (omega arith) (l .loop .inv .3))
+
+returns-2 : tie.Need-returns-2 Inv-loop μ-loop
+returns-2 c =
+    let l = c .before .before .before .before in
+    let t = l .before .before .args .part .now in
+    let e = ap length (string-stops t (l .loop .i) (c .before .if1 .taken)) in (
+      judgement _ _ (whole (omega arith) (record { some = omega arith; within = omega arith; ended = omega arith })),
+      hash-of-all t (l .loop .i) (omega arith) (omega arith) (l .loop .inv .3),
+    )
+
+returns-3 : tie.Need-returns-3 Inv-loop μ-loop
+returns-3 c =
+    let l = c .before .before .before .before in
+    let t = l .before .before .args .part .now in
+    let e = ap length (string-goes-on t (l .loop .i) (c .before .if1 .left)) in
+    (judgement _ _ (long (omega arith)), hash-of-front t (c .if3 .taken) (omega arith) (l .loop .inv .3))
+
+times31-requires : tie.Need-times31-requires Inv-loop μ-loop
+times31-requires c κs = search needs
+
+wrapping-add-u32-requires : tie.Need-wrapping-add-u32-requires Inv-loop μ-loop
+wrapping-add-u32-requires c κs = search needs
+
+add-i : tie.Need-add-i Inv-loop μ-loop
+add-i c = search needs
+
+loop-less : tie.Need-loop-less Inv-loop μ-loop
+loop-less c = search needs
+
+loop-again : tie.Need-loop-again Inv-loop μ-loop
+loop-again c =
+    let l = c .before .before .before .before .before .before in
+    let t = l .before .before .args .part .now in
+    let read = c .before .before .before .before in
+    let e = ap length (string-goes-on t (l .loop .i) (c .before .before .before .if1 .left)) in
+    let small : getD t (l .loop .i) 0 < 2 ^ 32 = omega (arith, read .shared-slice-known2 .given (l .loop .i)) in (
+      omega arith,
+      omega arith,
+      omega arith,
+      one-byte t (l .loop .i) (omega arith) small (l .loop .inv .3) (c .before .times31 .ensures) (c .wrapping-add-u32 .ensures),
+    )
+
+returns-4 : tie.Need-returns-4 Inv-loop μ-loop
+returns-4 c =
+    let l = c .before in
+    let t = l .before .before .args .part .now in
+    let e = ap length (string-ends t (l .loop .i) (c .loop-test .left)) in
+    (judgement _ _ (cut (omega arith) (omega arith)), hash-of-all t (l .loop .i) (omega arith) (omega arith) (l .loop .inv .3))
+
+pub read-name-spec : {M : Type 1} → statement M
+read-name-spec =
+    tie.close
+    (tie.spec
+    Inv-loop
+    μ-loop
+    loop-holds
+    shared-slice-read-byte
+    cast-byte
+    returns
+    returns-2
+    returns-3
+    times31-requires
+    wrapping-add-u32-requires
+    add-i
+    loop-less
+    loop-again
+    returns-4)
