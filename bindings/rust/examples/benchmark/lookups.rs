@@ -2,32 +2,35 @@
 
 use crate::caches::Cache;
 use crate::generator::Random;
-use crate::measure::{in_turn, time, Rounds, Row, LIBRARY, READER, READERS, UNCHECKED};
+use crate::measure::{in_turn, time, Rounds, Seconds, LIBRARY, READER, READERS, UNCHECKED};
 use crate::{reader, unchecked};
 use icon_cache::raw;
 use std::ffi::{CStr, CString};
 use std::hint::black_box;
 
-const ROUNDS: usize = 9;
 /// The names of one round: each of a large cache once at most, and those of a
 /// small cache many times.
 const NAMES: usize = 90_000;
 /// Room for the images of any icon.
 const WORDS: usize = 2 * 1_024;
 
-pub fn hits(cache: &Cache) -> Row {
-    measure(cache, "hit", &reader::names(&cache.bytes))
+pub fn hits(cache: &Cache) -> Rounds<'_> {
+    let there = reader::names(&cache.bytes);
+    lookups(
+        cache,
+        "hit",
+        there.into_iter().map(<[u8]>::to_vec).collect(),
+    )
 }
 
 /// Names of the same lengths that are not there.
-pub fn misses(cache: &Cache) -> Row {
+pub fn misses(cache: &Cache) -> Rounds<'_> {
     let there = reader::names(&cache.bytes);
-    let absent: Vec<Vec<u8>> = there.iter().map(|name| other_name(name)).collect();
-    let absent: Vec<&[u8]> = absent.iter().map(Vec::as_slice).collect();
+    let absent: Vec<Vec<u8>> = there.into_iter().map(other_name).collect();
     for name in &absent {
         assert_eq!(raw::lookup(&cache.bytes, name, &mut []).number, 30);
     }
-    measure(cache, "miss", &absent)
+    lookups(cache, "miss", absent)
 }
 
 /// No measured cache has a name that ends like this.
@@ -37,19 +40,16 @@ fn other_name(name: &[u8]) -> Vec<u8> {
     name
 }
 
-fn measure(cache: &Cache, call: &'static str, names: &[&[u8]]) -> Row {
+fn lookups<'a>(cache: &'a Cache, call: &'static str, names: Vec<Vec<u8>>) -> Rounds<'a> {
     // The reader without checks relies on it.
     assert_eq!(raw::check(&cache.bytes).number, 0);
-    let mut rounds = Rounds::default();
-    for round in 0..ROUNDS {
-        let tape = Tape::new(names, round as u64);
-        rounds.add(measure_round(&cache.bytes, &tape, round));
-    }
-    rounds.row(cache.name, call, cache.bytes.len())
+    Rounds::new(cache, call, move |round| {
+        measure(&cache.bytes, &Tape::new(&names, round as u64), round)
+    })
 }
 
 /// The readers must answer the same.
-fn measure_round(cache: &[u8], tape: &Tape, round: usize) -> [Option<f64>; READERS] {
+fn measure(cache: &[u8], tape: &Tape, round: usize) -> Seconds {
     let mut seconds = [None; READERS];
     let mut answers = Vec::new();
     for reader in in_turn(&[LIBRARY, UNCHECKED, READER], round) {
@@ -93,7 +93,7 @@ struct Tape {
 }
 
 impl Tape {
-    fn new(names: &[&[u8]], round: u64) -> Tape {
+    fn new(names: &[Vec<u8>], round: u64) -> Tape {
         let mut random = Random::new(2, round);
         let mut order: Vec<usize> = (0..names.len()).collect();
         while order.len() < NAMES {
@@ -106,7 +106,7 @@ impl Tape {
         for i in 0..NAMES {
             let chosen = random.between(i, order.len() - 1);
             order.swap(i, chosen);
-            let name = CString::new(names[order[i]]).expect("a name has no zero byte");
+            let name = CString::new(names[order[i]].as_slice()).expect("a name has no zero byte");
             tape.names.extend(name.as_bytes_with_nul());
             tape.ends.push(tape.names.len());
         }

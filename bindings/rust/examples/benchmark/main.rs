@@ -19,19 +19,37 @@ mod measure;
 mod table;
 mod unchecked;
 
+use measure::Rounds;
 use std::time::{Duration, Instant};
 
 /// The benchmark ends soon after, on a slow machine too.
 const AT_MOST: Duration = Duration::from_secs(114);
+const ROUNDS: usize = 15;
 
 fn main() {
     let start = Instant::now();
     table::print_head();
-    for cache in caches::all() {
-        table::print(&lookups::hits(&cache));
-        table::print(&lookups::misses(&cache));
-        table::print(&checks::check(&cache));
-    }
+    measure_side_by_side();
     hostile::measure_all(start + AT_MOST, table::print);
     println!("\nin {:.0} seconds", start.elapsed().as_secs_f64());
+}
+
+/// The rounds of all rows take turns, so that a slow time of the machine doesn't
+/// meet all rounds of one row.
+fn measure_side_by_side() {
+    let caches = caches::all();
+    let mut rows: Vec<Rounds> = Vec::new();
+    for cache in &caches {
+        rows.push(lookups::hits(cache));
+        rows.push(lookups::misses(cache));
+        rows.push(checks::check(cache));
+    }
+    for round in 0..ROUNDS {
+        for row in &mut rows {
+            row.measure(round);
+        }
+    }
+    for row in &rows {
+        table::print(&row.row());
+    }
 }

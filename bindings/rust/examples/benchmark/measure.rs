@@ -1,5 +1,6 @@
 //! Times of the readers, side by side.
 
+use crate::caches::Cache;
 use std::ffi::{c_int, c_long};
 use std::time::Duration;
 
@@ -10,46 +11,59 @@ pub const READER: usize = 2;
 pub const MEMCPY: usize = 3;
 pub const READERS: usize = 4;
 
+/// Seconds for each call, by reader; none where there is nothing to measure.
+pub type Seconds = [Option<f64>; READERS];
+
 /// One row of the table.
 pub struct Row {
     pub cache: &'static str,
     pub call: &'static str,
     pub bytes: usize,
-    /// Seconds for each call, by reader; none where there is nothing to measure.
-    pub seconds: [Option<f64>; READERS],
+    pub seconds: Seconds,
     /// How many times the library takes as long as each reader.
     pub ratios: [Option<f64>; READERS],
 }
 
-/// The times of some rounds. In each round the readers are measured one after
-/// another, so that a slow time of the machine meets them all.
-#[derive(Default)]
-pub struct Rounds {
-    seconds: Vec<[Option<f64>; READERS]>,
+/// What gives a row: rounds in which the readers are measured one after another.
+/// The best time of each reader counts, since other programs can only make a
+/// round slower.
+pub struct Rounds<'a> {
+    cache: &'a Cache,
+    call: &'static str,
+    round: Box<dyn Fn(usize) -> Seconds + 'a>,
+    best: Seconds,
 }
 
-impl Rounds {
-    pub fn add(&mut self, seconds: [Option<f64>; READERS]) {
-        self.seconds.push(seconds);
-    }
-
-    pub fn row(&self, cache: &'static str, call: &'static str, bytes: usize) -> Row {
-        let by_reader: [usize; READERS] = [LIBRARY, UNCHECKED, READER, MEMCPY];
-        let seconds = by_reader.map(|r| self.median(|round| round[r]));
-        let ratios = by_reader.map(|r| self.median(|round| Some(round[LIBRARY]? / round[r]?)));
-        Row {
+impl<'a> Rounds<'a> {
+    pub fn new(
+        cache: &'a Cache,
+        call: &'static str,
+        round: impl Fn(usize) -> Seconds + 'a,
+    ) -> Rounds<'a> {
+        Rounds {
             cache,
             call,
-            bytes,
-            seconds,
-            ratios,
+            round: Box::new(round),
+            best: [None; READERS],
         }
     }
 
-    fn median(&self, value: impl Fn(&[Option<f64>; READERS]) -> Option<f64>) -> Option<f64> {
-        let mut values: Vec<f64> = self.seconds.iter().filter_map(value).collect();
-        values.sort_by(f64::total_cmp);
-        values.get(values.len() / 2).copied()
+    pub fn measure(&mut self, round: usize) {
+        let seconds = (self.round)(round);
+        for (best, now) in self.best.iter_mut().zip(seconds) {
+            *best = [*best, now].into_iter().flatten().min_by(f64::total_cmp);
+        }
+    }
+
+    pub fn row(&self) -> Row {
+        let seconds = self.best;
+        Row {
+            cache: self.cache.name,
+            call: self.call,
+            bytes: self.cache.bytes.len(),
+            seconds,
+            ratios: seconds.map(|other| Some(seconds[LIBRARY]? / other?)),
+        }
     }
 }
 
