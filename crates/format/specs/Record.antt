@@ -51,13 +51,15 @@ unfoldable pub imagesFault : ℕ → List ℕ → ℕ → Fault
 imagesFault zero s at = noFault
 imagesFault (suc m) s at = given (not (imageRight s at)) 11 at orElse imagesFault m s (at + 8)
 
--- rules 8 to 11 on the record r, on the chain of bucket k
+-- of the record r on the chain of bucket k: rules 8 and 9 on its name, rules 10 and 11 on its images, and all of them
+unfoldable pub nameFault : List ℕ → ℕ → ℕ → Fault
+nameFault s k r = given (not (nameRight s r)) 8 (r + 4) orElse given (not (bucketRight s k r)) 9 (r + 4)
+
+unfoldable pub listFault : List ℕ → ℕ → Fault
+listFault s r = given (not (imagesRight s r)) 10 (r + 8) orElse imagesFault (images s r) s (imagesAt s r + 4)
+
 unfoldable pub recordFault : List ℕ → ℕ → ℕ → Fault
-recordFault s k r =
-    given (not (nameRight s r)) 8 (r + 4)
-    orElse given (not (bucketRight s k r)) 9 (r + 4)
-    orElse given (not (imagesRight s r)) 10 (r + 8)
-    orElse imagesFault (images s r) s (imagesAt s r + 4)
+recordFault s k r = nameFault s k r orElse listFault s r
 
 -- the two words of each of m images from `at` on
 unfoldable pub imageWords : ℕ → List ℕ → ℕ → List ℕ

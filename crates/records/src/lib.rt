@@ -1,14 +1,15 @@
 // An icon record of a cache: rules 8 to 11, whether it bears a name, and the words of its images.
 ghost use mathlib.Core.Path.{_≡_};
 ghost use mathlib.Core.List.{_++_};
-ghost use mathlib.Core.Bool.{_&&_};
+ghost use mathlib.Core.Bool.{true, _&&_};
 ghost use Prim.Native.Nat.{_+_, _*_, _^_, _≤_, _<_};
 ghost use lib.ListN.{length, drop};
 ghost use lib.Dec.{leb};
 ghost use Rattle.format.specs.Number.{be, listInside};
+ghost use Rattle.format.specs.Fault.{noFault};
 ghost use Rattle.format.specs.Text.{sameBytes};
 ghost use Rattle.format.specs.Header.{directories};
-ghost use Rattle.format.specs.Record.{nameOf, imageRight, imagesFault, recordFault, imageWords};
+ghost use Rattle.format.specs.Record.{nameOf, nameRight, imageRight, imagesFault, nameFault, listFault, recordFault, imageWords};
 ghost use Rattle.tables.specs.Tables.{Right};
 ghost use Rattle.records.specs.RightWords.{rightWords};
 use bigendian::u16_at;
@@ -114,12 +115,19 @@ fn name_part(cache: &[u8], offset: usize) -> &[u8]
     text::from(cache, at)
 }
 
-// The first of the rules 8 to 11 that the record at `offset` breaks, on the chain of `bucket`.
-pub fn judge(cache: &[u8], t: Tables, bucket: usize, offset: usize) -> Fault
+// Rules 8 and 9 on the name of the record at `offset`, on the chain of `bucket`. A name that is `known` to keep them isn't read.
+fn judge_name(cache: &[u8], t: Tables, bucket: usize, offset: usize, known: bool) -> Fault
     requires { ⌜ Right (now cache) t ⌝ }
     requires { ⌜ offset + 12 ≤ length (now cache) ⌝ }
-    ensures { λ r. ⌜ r ≡ recordFault (now (cache .entry)) bucket offset ⌝ }
+    requires { ⌜ (known ≡ true → nameFault (now cache) bucket offset ≡ noFault) ⌝ }
+    ensures { λ r. ⌜ r ≡ nameFault (now (cache .entry)) bucket offset ⌝ }
 {
+    if known {
+        return Fault {
+            number: 0,
+            place: 0,
+        };
+    }
     let name = text::read_name(name_part(cache, offset));
     let text = name.text;
     let Text::Whole(_) = text else {
@@ -134,6 +142,18 @@ pub fn judge(cache: &[u8], t: Tables, bucket: usize, offset: usize) -> Fault
             place: offset + 4,
         };
     }
+    Fault {
+        number: 0,
+        place: 0,
+    }
+}
+
+// Rules 10 and 11 on the images of the record at `offset`.
+fn judge_images(cache: &[u8], t: Tables, offset: usize) -> Fault
+    requires { ⌜ Right (now cache) t ⌝ }
+    requires { ⌜ offset + 12 ≤ length (now cache) ⌝ }
+    ensures { λ r. ⌜ r ≡ listFault (now (cache .entry)) offset ⌝ }
+{
     let at = u32_at(cache, offset + 8) as usize;
     if !list_right(cache, at) {
         return Fault {
@@ -146,10 +166,24 @@ pub fn judge(cache: &[u8], t: Tables, bucket: usize, offset: usize) -> Fault
     images(cache, n, m, at + 4)
 }
 
-// Whether the record at `offset` bears `name`.
-pub fn bears(cache: &[u8], offset: usize, name: &[u8]) -> bool
+// The first of the rules 8 to 11 that the record at `offset` breaks, on the chain of `bucket`. A name that is `known` to keep 8 and 9 isn't read.
+pub fn judge(cache: &[u8], t: Tables, bucket: usize, offset: usize, known: bool) -> Fault
+    requires { ⌜ Right (now cache) t ⌝ }
     requires { ⌜ offset + 12 ≤ length (now cache) ⌝ }
-    ensures { λ r. ⌜ r ≡ sameBytes (nameOf (now (cache .entry)) offset) (now (name .entry)) ⌝ }
+    requires { ⌜ (known ≡ true → nameFault (now cache) bucket offset ≡ noFault) ⌝ }
+    ensures { λ r. ⌜ r ≡ recordFault (now (cache .entry)) bucket offset ⌝ }
+{
+    let fault = judge_name(cache, t, bucket, offset, known);
+    if fault.number != 0 {
+        return fault;
+    }
+    judge_images(cache, t, offset)
+}
+
+// Whether the record at `offset` has a whole name and it is `name`.
+pub fn bears(cache: &[u8], offset: usize, name: &[u8]) -> bool
+    requires { ⌜ (offset + 12 ≤ length (now cache)) × (length (now name) ≤ 255) ⌝ }
+    ensures { λ r. ⌜ r ≡ (nameRight (now (cache .entry)) offset && sameBytes (nameOf (now (cache .entry)) offset) (now (name .entry))) ⌝ }
 {
     let part = name_part(cache, offset);
     text::same(part, name)

@@ -1,9 +1,10 @@
 // Strings that end in a zero byte: what one is, a name with its hash, whether a name is the one asked for, and whether it may be asked for.
 // A string is handed over as the part of the buffer from its offset on.
 ghost use mathlib.Core.Path.{_≡_};
-ghost use Prim.Native.Nat.{_*_, _%_, _^_};
-ghost use lib.ListN.{take, drop};
-ghost use Rattle.format.specs.Text.{string, text, sameBytes, hash, allowed};
+ghost use mathlib.Core.Bool.{_&&_};
+ghost use Prim.Native.Nat.{_*_, _%_, _^_, _≤_};
+ghost use lib.ListN.{length, take, drop};
+ghost use Rattle.format.specs.Text.{string, text, isWhole, sameBytes, hash, allowed};
 use format::Text;
 use std::num::wrapping_add_u32;
 use std::num::wrapping_sub_u32;
@@ -89,14 +90,15 @@ pub fn read_name(part: &[u8]) -> Name
     }
 }
 
-// Whether the string at the front of `part` is `name`: as long, and byte for byte the same.
+// Whether the string at the front of `part` is whole and is `name`: as long, and byte for byte the same.
 pub fn same(part: &[u8], name: &[u8]) -> bool
-    ensures { λ r. ⌜ r ≡ sameBytes (string (now (part .entry))) (now (name .entry)) ⌝ }
+    requires { ⌜ length (now name) ≤ 255 ⌝ }
+    ensures { λ r. ⌜ r ≡ (isWhole (text 255 (now (part .entry))) && sameBytes (string (now (part .entry))) (now (name .entry))) ⌝ }
 {
     let mut i = 0;
     while i < part.len() {
         if part[i] == 0 {
-            return i == name.len();
+            return if i == 0 { false } else { i == name.len() };
         }
         if i == name.len() {
             return false;
@@ -106,7 +108,7 @@ pub fn same(part: &[u8], name: &[u8]) -> bool
         }
         i += 1;
     }
-    i == name.len()
+    false
 }
 
 // Whether `name` may be asked for, with 1 to 255 bytes and none of them zero, and its hash.

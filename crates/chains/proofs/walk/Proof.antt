@@ -3,17 +3,21 @@
 -- `walk-met`), and one more turn is `walk-next`.
 use Prim.Native.Nat.{suc, _+_, _-_, _≤_}
 use mathlib.Core.Path.{_≡_, ap, sym, _∙_}
+use mathlib.Core.Bool.{_&&_}
 use native.Mathlib.Omega.{arith}
 use borrow.Author.Needs.{needs}
 use lib.ListN.{length}
 use denote.Ref.{now}
 use Rattle.format.specs.Number.{be}
+use Rattle.format.specs.Text.{sameBytes}
 use Rattle.format.specs.Header.{bucketField}
+use Rattle.format.specs.Record.{nameOf, nameRight}
 use Rattle.format.specs.Chain.{walk, walkBucket}
 use Rattle.format.specs.Words.{Keeps}
 use Rattle.format.specs.declared.Fault.{Fault}
-use Rattle.format.specs.Laws.Names.{same-equal, other-unequal}
 use Rattle.format.specs.Laws.Header.{header-right}
+use Rattle.format.specs.Laws.Records.{met-same, unmet-other, met-home}
+use Rattle.format.specs.Laws.Rules.{record-right}
 use Rattle.format.specs.Laws.Walk.{walk-ended, walk-outside, walk-broken, walk-met, walk-next}
 use Rattle.chains.proofs.walk.Statement.{statement}
 use Rattle.chains.proofs.walk.Tie as tie
@@ -40,16 +44,24 @@ turn c =
 
 -- the record that a turn has judged keeps the rules
 kept : (c : tie.Else3 Inv-loop μ-loop)
-    → let l = c .before .before .before .before .before .before .before in
+    → let l = c .before .before .before .before .before .before .before .before in
     let a = l .before .before .before .before .args in
     Keeps (now (a .cache)) (a .bucket) (be 4 (now (a .cache)) (l .loop .field))
 kept c =
     let judged = c .before .before in
-    let read = judged .before .before .before in
+    let read = judged .before .before .before .before in
     rw (← (read .u32-at .ensures)) (record {
-      inside = judged .before .if2 .left;
+      inside = judged .before .before .if2 .left;
       rules = ap (λ (f : Fault). f .number) (sym (judged .judge .ensures)) ∙ c .if3 .left;
     })
+
+-- what the comparison has told of it
+compared : (c : tie.After-bears Inv-loop μ-loop)
+    → let l = c .before .before .before .before .before in
+    let a = l .before .before .before .before .args in
+    let r = be 4 (now (a .cache)) (l .loop .field) in
+    c .bears .result ≡ (nameRight (now (a .cache)) r && sameBytes (nameOf (now (a .cache)) r) (now (a .wanted)))
+compared c = rw (← (c .before .before .before .u32-at .ensures)) (c .bears .ensures)
 
 sub-limit : tie.Need-sub-limit Inv-loop μ-loop
 sub-limit c = let start = c .before .before in omega (arith, header-right (now (start .args .cache)) (start .pre .0 .header) .header-inside)
@@ -57,13 +69,13 @@ sub-limit c = let start = c .before .before in omega (arith, header-right (now (
 bucket-field-requires : tie.Need-bucket-field-requires Inv-loop μ-loop
 bucket-field-requires c κs =
     let start = c .before .before in
-    rw (start .pre .0 .tables) (omega (arith, header-right (now (start .args .cache)) (start .pre .0 .header), start .pre .1))
+    rw (start .pre .0 .tables) (omega (arith, header-right (now (start .args .cache)) (start .pre .0 .header), start .pre .1 .0))
 
 loop-holds : tie.Need-loop-holds Inv-loop μ-loop
 loop-holds c =
     let start = c .before .before .before in
     let field : c .bucket-field .result ≡ bucketField (now (start .args .cache)) (start .args .bucket) = c .bucket-field .ensures ∙ rw (start .pre .0 .tables) in
-    (omega (arith, field, header-right (now (start .args .cache)) (start .pre .0 .header), start .pre .1), rw field)
+    (omega (arith, field, header-right (now (start .args .cache)) (start .pre .0 .header), start .pre .1 .0), rw field)
 
 u32-at-requires : tie.Need-u32-at-requires Inv-loop μ-loop
 u32-at-requires c κs = omega arith
@@ -86,37 +98,46 @@ returns-2 c =
 add-count : tie.Need-add-count Inv-loop μ-loop
 add-count c = omega arith
 
+bears-requires : tie.Need-bears-requires Inv-loop μ-loop
+bears-requires c κs = (c .if2 .left, c .before .before .before .before .before .before .before .before .pre .1 .1 .0)
+
 judge-requires : tie.Need-judge-requires Inv-loop μ-loop
-judge-requires c κs = (c .before .before .before .before .before .before .before .before .pre .0, c .if2 .left)
+judge-requires c κs =
+    let start = c .before .before .before .before .before .before .before .before .before in
+    (start .pre .0, (c .before .if2 .left, λ e. met-home _ _ _ _ (start .pre .1 .1 .1) (sym (c .bears .ensures) ∙ e)))
 
 returns-3 : tie.Need-returns-3 Inv-loop μ-loop
 returns-3 c =
     let judged = c .before .before in
-    let read = judged .before .before .before in
-    let real = rw (read .u32-at .ensures) at (judged .before .before .if1 .left) in
-    let inside = rw (read .u32-at .ensures) at (judged .before .if2 .left) in
+    let read = judged .before .before .before .before in
+    let real = rw (read .u32-at .ensures) at (judged .before .before .before .if1 .left) in
+    let inside = rw (read .u32-at .ensures) at (judged .before .before .if2 .left) in
     let broken = rw (judged .judge .ensures, read .u32-at .ensures) at (c .if3 .taken) in
     rw (judged .judge .ensures, read .u32-at .ensures) (sym (walk-broken _ _ _ _ _ _ real inside broken) ∙ turn (read .before))
 
-bears-requires : tie.Need-bears-requires Inv-loop μ-loop
-bears-requires c κs = c .before .before .before .if2 .left
-
 returns-4 : tie.Need-returns-4 Inv-loop μ-loop
 returns-4 c =
-    let read = c .before .before .before .before .before .before .before in
-    let real = rw (read .u32-at .ensures) at (c .before .before .before .before .before .before .if1 .left) in
-    let same = same-equal _ _ (sym (c .before .bears .ensures) ∙ c .if4 .taken) in
-    rw (read .u32-at .ensures) (sym (walk-met _ _ _ _ _ _ real (kept (c .before .before)) (rw (read .u32-at .ensures) at same)) ∙ turn (read .before))
+    let judged = c .before .before .before in
+    let read = judged .before .before .before .before in
+    let real = rw (read .u32-at .ensures) at (judged .before .before .before .if1 .left) in
+    let l = read .before .before in
+    let a = l .before .before .before .before .args in
+    let same = met-same (now (a .cache)) (now (a .wanted)) (be 4 (now (a .cache)) (l .loop .field)) (sym (compared (judged .before)) ∙ c .if4 .taken) in
+    rw (read .u32-at .ensures) (sym (walk-met _ _ _ _ _ _ real (kept (c .before)) same) ∙ turn (read .before))
 
 loop-less : tie.Need-loop-less Inv-loop μ-loop
 loop-less c = omega arith
 
 loop-again : tie.Need-loop-again Inv-loop μ-loop
 loop-again c =
-    let read = c .before .before .before .before .before .before .before in
-    let real = rw (read .u32-at .ensures) at (c .before .before .before .before .before .before .if1 .left) in
-    let other = other-unequal _ _ (sym (c .before .bears .ensures) ∙ c .if4 .left) in
-    (omega arith, rw (read .u32-at .ensures) (sym (walk-next _ _ _ _ _ _ real (kept (c .before .before)) (rw (read .u32-at .ensures) at other)) ∙ turn (read .before)))
+    let judged = c .before .before .before in
+    let read = judged .before .before .before .before in
+    let real = rw (read .u32-at .ensures) at (judged .before .before .before .if1 .left) in
+    let l = read .before .before in
+    let a = l .before .before .before .before .args in
+    let right = record-right _ _ _ (kept (c .before) .rules) .named in
+    let other = unmet-other (now (a .cache)) (now (a .wanted)) (be 4 (now (a .cache)) (l .loop .field)) right (sym (compared (judged .before)) ∙ c .if4 .left) in
+    (omega arith, rw (read .u32-at .ensures) (sym (walk-next _ _ _ _ _ _ real (kept (c .before)) other) ∙ turn (read .before)))
 
 returns-5 : tie.Need-returns-5 Inv-loop μ-loop
 unfolding walk
@@ -140,9 +161,9 @@ walk-spec =
     add-if2
     returns-2
     add-count
+    bears-requires
     judge-requires
     returns-3
-    bears-requires
     returns-4
     loop-less
     loop-again

@@ -1,6 +1,6 @@
 -- The hash of the first bytes of a name, and what one byte more makes of it.
 use Prim.Native.Nat.{ℕ, zero, suc, _+_, _*_, _%_, _^_, _<_}
-use mathlib.Core.Path.{_≡_, refl, ap, _∙_}
+use mathlib.Core.Path.{_≡_, refl, ap}
 use mathlib.Core.List.{List, [], _∷_}
 use mathlib.Core.Bool.{true}
 use native.Mathlib.Numerals.{add-one}
@@ -25,4 +25,4 @@ hash-one-more (b ∷ t) (suc i) l small = rw add-one (rw add-one at (from-one-mo
 
 -- a name that may be asked for is hashed whole: no zero byte cuts it, and it is not too long
 pub allowed-hash : (name : List ℕ) → allowed name ≡ true → hash (take 255 (string name)) ≡ hash name
-allowed-hash name e = ap hash (take-all 255 (string name) (allowed-short name e) ∙ allowed-string name e)
+allowed-hash name e = ap hash (rw (allowed-string name e) (take-all 255 name (allowed-short name e)))

@@ -1,37 +1,61 @@
--- Rules 8 to 11 on a record, one law for each rule that is the first to be broken.
-use Prim.Native.Nat.{ℕ, _+_}
+-- Rules 8 to 11 on a record, one law for each rule that is the first to be broken, and what the comparison with a wanted name tells.
+use Prim.Native.Nat.{ℕ, _+_, _<_}
 use mathlib.Core.Path.{_≡_, _∙_, ap}
 use mathlib.Core.List.{List}
-use mathlib.Core.Bool.{true, false, not}
+use mathlib.Core.Bool.{Bool, true, false, not, _&&_, and-eq-true-iff}
+use native.Mathlib.Omega.{arith}
 use borrow.Author.Tests.{eq-eqb, ne-eqb}
-use Rattle.format.specs.Fault.{fault}
-use Rattle.format.specs.Record.{nameOf, bucketOf, imagesAt, images, nameRight, bucketRight, imagesRight, imagesFault, recordFault}
-use Rattle.format.specs.Laws.Faults.{broken-speaks, kept-passes}
+use lib.ListN.{length}
+use Rattle.format.specs.Fault.{fault, noFault, given}
+use Rattle.format.specs.Text.{sameBytes}
+use Rattle.format.specs.Record.{namePart, nameOf, bucketOf, imagesAt, images, nameRight, bucketRight, imagesRight, imagesFault, nameFault, listFault, recordFault}
+use Rattle.format.specs.Laws.Strings.{whole-named}
+use Rattle.format.specs.Laws.Names.{same-equal, other-unequal}
+use Rattle.format.specs.Laws.Faults.{orElse-first, orElse-next, broken-speaks, kept-passes}
 
 module _ (s : List ℕ) (k r : ℕ) where
-  pub record-unnamed : not (nameRight s r) ≡ true → recordFault s k r ≡ fault 8 (r + 4)
+  pub name-unread : nameRight s r ≡ false → nameFault s k r ≡ fault 8 (r + 4)
+  unfolding nameFault
+  name-unread e = broken-speaks (not (nameRight s r)) _ _ _ (ap not e)
+
+  pub name-foreign : nameRight s r ≡ true → (bucketOf s (nameOf s r) ≡ k → ⊥) → nameFault s k r ≡ fault 9 (r + 4)
+  unfolding nameFault
+  name-foreign e h = kept-passes (not (nameRight s r)) _ _ _ (ap not e) ∙ ap (λ b. given (not b) 9 (r + 4)) (ne-eqb _ _ h)
+
+  pub name-home : nameRight s r ≡ true → bucketOf s (nameOf s r) ≡ k → nameFault s k r ≡ noFault
+  unfolding nameFault
+  name-home e h = kept-passes (not (nameRight s r)) _ _ _ (ap not e) ∙ ap (λ b. given (not b) 9 (r + 4)) (eq-eqb _ _ h)
+
+  pub list-broken : imagesRight s r ≡ false → listFault s r ≡ fault 10 (r + 8)
+  unfolding listFault
+  list-broken e = broken-speaks (not (imagesRight s r)) _ _ _ (ap not e)
+
+  pub list-kept : imagesRight s r ≡ true → listFault s r ≡ imagesFault (images s r) s (imagesAt s r + 4)
+  unfolding listFault
+  list-kept e = kept-passes (not (imagesRight s r)) _ _ _ (ap not e)
+
+  pub record-misnamed : (nameFault s k r .number ≡ 0 → ⊥) → recordFault s k r ≡ nameFault s k r
   unfolding recordFault
-  record-unnamed e = broken-speaks (not (nameRight s r)) _ _ _ e
+  record-misnamed h = orElse-first _ _ h
 
-  module _ (named : not (nameRight s r) ≡ false) where
-    pub record-foreign : (bucketOf s (nameOf s r) ≡ k → ⊥) → recordFault s k r ≡ fault 9 (r + 4)
-    unfolding recordFault
-    record-foreign e = kept-passes (not (nameRight s r)) _ _ _ named ∙ broken-speaks (not (bucketRight s k r)) _ _ _ (ap not (ne-eqb _ _ e))
+  pub record-named : nameFault s k r .number ≡ 0 → recordFault s k r ≡ listFault s r
+  unfolding recordFault
+  record-named e = orElse-next _ _ e
 
-    module _ (home : bucketOf s (nameOf s r) ≡ k) where
-      abbrev home-right : not (bucketRight s k r) ≡ false
-      home-right = ap not (eq-eqb _ _ home)
+-- what the comparison of a whole name with a wanted one tells
+module _ (s wanted : List ℕ) (r : ℕ) where
+  abbrev compared : Bool
+  compared = nameRight s r && sameBytes (nameOf s r) wanted
 
-      pub record-unlisted : not (imagesRight s r) ≡ true → recordFault s k r ≡ fault 10 (r + 8)
-      unfolding recordFault
-      record-unlisted e =
-          kept-passes (not (nameRight s r)) _ _ _ named
-          ∙ kept-passes (not (bucketRight s k r)) _ _ _ home-right
-          ∙ broken-speaks (not (imagesRight s r)) _ _ _ e
+  pub met-same : compared ≡ true → nameOf s r ≡ wanted
+  met-same e = same-equal (nameOf s r) wanted (and-eq-true-iff (nameRight s r) _ .0 e .1)
 
-      pub record-listed : not (imagesRight s r) ≡ false → recordFault s k r ≡ imagesFault (images s r) s (imagesAt s r + 4)
-      unfolding recordFault
-      record-listed e =
-          kept-passes (not (nameRight s r)) _ _ _ named
-          ∙ kept-passes (not (bucketRight s k r)) _ _ _ home-right
-          ∙ kept-passes (not (imagesRight s r)) _ _ _ e
+  pub unmet-other : nameRight s r ≡ true → compared ≡ false → nameOf s r ≡ wanted → ⊥
+  unmet-other right e = other-unequal (nameOf s r) wanted (rw right at e)
+
+  -- the same name is at home where the wanted one is
+  pub met-home : (k : ℕ) → (0 < length wanted → bucketOf s wanted ≡ k) → compared ≡ true → nameFault s k r ≡ noFault
+  met-home k home e =
+      let right = and-eq-true-iff (nameRight s r) _ .0 e .0 in
+      let some : 0 < length wanted = omega (arith, whole-named 255 (namePart s r) right .some, ap length (met-same e)) in
+      name-home s k r right (ap (bucketOf s) (met-same e) ∙ home some)

@@ -9,7 +9,7 @@ use borrow.Author.Tests.{eqb-true, not-false}
 use lib.Dec.{lit≤}
 use Rattle.format.specs.Fault.{given, _orElse_}
 use Rattle.format.specs.Header.{directories, headerFault, pathRight, pathFault, pathsFault, tablesFault}
-use Rattle.format.specs.Record.{nameOf, bucketOf, recordFault, imagesFault, nameRight, bucketRight, imagesRight, imageRight}
+use Rattle.format.specs.Record.{nameOf, bucketOf, nameFault, listFault, recordFault, imagesFault, nameRight, bucketRight, imagesRight, imageRight}
 use Rattle.format.specs.declared.Fault.{Fault}
 use Rattle.format.specs.Laws.Faults.{given-none, given-most, given-all, orElse-first, orElse-next, orElse-none, orElse-most, orElse-all}
 use Rattle.format.specs.Laws.Header.{header-number}
@@ -57,20 +57,19 @@ module _ (s : List ℕ) where
 
   module _ (k r : ℕ) where
     pub record-number : OfRecord (recordFault s k r .number)
-    unfolding recordFault
+    unfolding recordFault nameFault listFault
     record-number =
-        rule (not (nameRight s r)) _ _ _ (inr (lit≤ tt, lit≤ tt))
-        (rule (not (bucketRight s k r)) _ _ _ (inr (lit≤ tt, lit≤ tt))
-        (rule (not (imagesRight s r)) _ _ _ (inr (lit≤ tt, lit≤ tt)) (images-number _ _)))
+        orElse-all OfRecord _ _
+        (rule (not (nameRight s r)) _ _ _ (inr (lit≤ tt, lit≤ tt)) (given-all OfRecord (not (bucketRight s k r)) _ _ (inl refl) (inr (lit≤ tt, lit≤ tt))))
+        (rule (not (imagesRight s r)) _ _ _ (inr (lit≤ tt, lit≤ tt)) (images-number _ _))
 
     pub record-right : recordFault s k r .number ≡ 0 → RecordRight s k r
-    unfolding recordFault
+    unfolding recordFault nameFault listFault
     record-right e =
-        let after8 = orElse-none _ _ e in
-        let after9 = orElse-none _ _ (after8 .1) in
-        let after10 = orElse-none _ _ (after9 .1) in
+        let name = orElse-none _ _ (orElse-none _ _ e .0) in
+        let list = orElse-none _ _ (orElse-none _ _ e .1) in
         record {
-          named = not-false _ (given-none _ _ _ (after8 .0));
-          home = eqb-true _ _ (not-false _ (given-none _ _ _ (after9 .0)));
-          listed = not-false _ (given-none _ _ _ (after10 .0));
+          named = not-false _ (given-none _ _ _ (name .0));
+          home = eqb-true _ _ (not-false _ (given-none _ _ _ (name .1)));
+          listed = not-false _ (given-none _ _ _ (list .0));
         }

@@ -117,9 +117,8 @@ allowed-string name e =
     let same : length (string name) ≡ length name = eqb-true _ _ (and-eq-true-iff (ltb 0 (length name) && leb (length name) 255) _ .0 e .1) in
     sym (string-front name) ∙ rw same (take-length name)
 
-pub allowed-short : (name : List ℕ) → allowed name ≡ true → length (string name) ≤ 255
+pub allowed-short : (name : List ℕ) → allowed name ≡ true → length name ≤ 255
 unfolding allowed
 allowed-short name e =
     let sized = and-eq-true-iff (ltb 0 (length name) && leb (length name) 255) _ .0 e .0 in
-    let short : length name ≤ 255 = leb-true _ _ (and-eq-true-iff (ltb 0 (length name)) _ .0 sized .1) in
-    omega (arith, string-fits name)
+    leb-true _ _ (and-eq-true-iff (ltb 0 (length name)) _ .0 sized .1)

@@ -19,6 +19,7 @@ use Rattle.format.specs.Words.{LookupKept}
 use Rattle.format.specs.declared.Fault.{Fault}
 use Rattle.format.specs.declared.Ending.{Ending}
 use Rattle.format.specs.declared.LookupAnswer.{LookupAnswer}
+use Rattle.format.specs.Laws.Strings.{allowed-short}
 use Rattle.format.specs.Laws.Hashes.{allowed-hash}
 use Rattle.format.specs.Laws.Header.{header-right}
 use Rattle.format.specs.Laws.Links.{keeps-listed}
@@ -125,7 +126,10 @@ rem-bucket : tie.Need-rem-bucket
 rem-bucket c = rw (counted (c .before .before)) (header-right _ (right (c .before .before) .header) .buckets-some)
 
 walk-requires : tie.Need-walk-requires
-walk-requires c κs = (right (c .before .before), rw (bucket-is c) (bucket-below (c .before .before)))
+walk-requires c κs =
+    let read = c .before .before in
+    let short = allowed-short _ (may-be (read .before .before .before .before)) in
+    (right read, (rw (bucket-is c) (bucket-below read), (short, λ some. sym (bucket-is c))))
 
 enum-known-ending : tie.Need-enum-known-ending
 enum-known-ending c = search needs

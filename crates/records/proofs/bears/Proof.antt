@@ -2,8 +2,9 @@
 use Prim.Native.Nat.{ℕ}
 use mathlib.Core.Path.{ap, _∙_}
 use mathlib.Core.List.{List}
+use mathlib.Core.Bool.{_&&_}
 use denote.Ref.{now}
-use Rattle.format.specs.Text.{string, sameBytes}
+use Rattle.format.specs.Text.{string, text, isWhole, sameBytes}
 use borrow.Author.Needs.{needs}
 use Rattle.records.proofs.bears.Statement.{statement}
 use Rattle.records.proofs.bears.Tie as tie
@@ -15,7 +16,9 @@ same-requires : tie.Need-same-requires
 same-requires c κs = search needs
 
 returns : tie.Need-returns
-returns c = c .same .ensures ∙ ap (λ (t : List ℕ). sameBytes (string t) (now (c .before .before .before .before .args .name))) (c .before .name-part .ensures)
+returns c =
+    c .same .ensures
+    ∙ ap (λ (t : List ℕ). isWhole (text 255 t) && sameBytes (string t) (now (c .before .before .before .before .args .name))) (c .before .name-part .ensures)
 
 pub bears-spec : {M : Type 1} → statement M
 bears-spec = tie.close (tie.spec name-part-requires same-requires returns)

@@ -1,9 +1,10 @@
--- `text::same` meets its contract. What is left of both compares as the whole does. Rests on `string-stops`, `string-ends` and `string-goes-on`,
--- and on the facts below: where the comparison ends and how it goes on.
+-- `text::same` meets its contract. What is left of both compares as the whole does, and the bytes passed and those of the string of the rest are
+-- together as many as the whole string's. Rests on `string-stops`, `string-ends`, `string-goes-on` and `judgement`, and on the facts below: where
+-- the comparison ends and how it goes on.
 use Prim.Native.Nat.{ℕ, zero, suc, _+_, _-_, _≤_, _<_}
-use mathlib.Core.Path.{_≡_, refl, sym, _∙_}
+use mathlib.Core.Path.{_≡_, refl, sym, ap, _∙_}
 use mathlib.Core.List.{List, [], _∷_}
-use mathlib.Core.Bool.{false, _&&_}
+use mathlib.Core.Bool.{Bool, false, _&&_, and-false}
 use native.Mathlib.Numerals.{add-one}
 use native.Mathlib.Omega.{arith}
 use borrow.Author.Needs.{needs}
@@ -11,8 +12,9 @@ use borrow.Author.Tests.{eq-eqb, ne-eqb}
 use lib.Dec.{eqb, eqb·zero-suc, eqb·suc-suc}
 use lib.ListN.{length, drop, getD, drop-of-length-le}
 use lib.Seq.{drop-cons}
-use Rattle.format.specs.Text.{string, sameBytes}
-use Rattle.format.specs.Laws.Strings.{string-stops, string-ends, string-goes-on}
+use Rattle.format.specs.declared.Text.{Text}
+use Rattle.format.specs.Text.{string, text, isWhole, sameBytes}
+use Rattle.format.specs.Laws.Strings.{string-stops, string-ends, string-goes-on, Named, Judged, judgement, cut, empty, whole}
 use Rattle.text.proofs.same.Statement.{statement}
 use Rattle.text.proofs.same.Tie as tie
 
@@ -44,43 +46,69 @@ module _ (part name : List ℕ) (i : ℕ) (nz : getD part i 0 ≡ 0 → ⊥) (h 
   bytes-agree : getD part i 0 ≡ getD name i 0 → sameBytes (string (drop i part)) (drop i name) ≡ sameBytes (string (drop (i + 1) part)) (drop (i + 1) name)
   bytes-agree e = one-byte ∙ rw (eq-eqb _ _ e)
 
+-- the answer, where the string is whole, where it is not, and where the bytes differ
+module _ (part name : List ℕ) where
+  whole-answers : {b : Bool} → Named 255 part → b ≡ sameBytes (string part) name → b ≡ (isWhole (text 255 part) && sameBytes (string part) name)
+  unfolding isWhole
+  whole-answers h e = rw (← (judgement 255 part (whole refl h))) e
+
+  other-answers : {r : Text} → Judged 255 part r → isWhole r ≡ false → false ≡ (isWhole (text 255 part) && sameBytes (string part) name)
+  other-answers j e = rw (← (judgement 255 part j), e)
+
+  unequal-answers : sameBytes (string part) name ≡ false → false ≡ (isWhole (text 255 part) && sameBytes (string part) name)
+  unequal-answers e = rw (e, and-false)
+
 abbrev Inv-loop : tie.InvT-loop
 Inv-loop part name i₀ i =
-    (i ≤ length part) × (i ≤ length name) × (sameBytes (string (drop i part)) (drop i name) ≡ sameBytes (string part) name)
+    (i ≤ length part)
+    × (i ≤ length name)
+    × (i + length (string (drop i part)) ≡ length (string part))
+    × (sameBytes (string (drop i part)) (drop i name) ≡ sameBytes (string part) name)
 
 abbrev μ-loop : tie.MeasureT-loop
 μ-loop part name i₀ i = length part - i
 
 loop-holds : tie.Need-loop-holds Inv-loop μ-loop
-loop-holds c = (omega arith, omega arith, refl)
+loop-holds c = (omega arith, omega arith, omega arith, refl)
 
 shared-slice-read-if1 : tie.Need-shared-slice-read-if1 Inv-loop μ-loop
 shared-slice-read-if1 c = search needs
 
 returns : tie.Need-returns Inv-loop μ-loop
+unfolding isWhole
 returns c =
-    let l = c .before .before .before in
+    let l = c .before .before .before .before in
     let a = l .before .args in
-    sym (string-over (a .part .now) (a .name .now) (l .loop .i) (string-stops (a .part .now) (l .loop .i) (c .if1 .taken)) (omega arith)) ∙ l .loop .inv .2
+    let e = ap length (string-stops (a .part .now) (l .loop .i) (c .before .if1 .taken)) in
+    other-answers _ _ (empty (omega arith) (omega arith)) refl
 
 returns-2 : tie.Need-returns-2 Inv-loop μ-loop
 returns-2 c =
     let l = c .before .before .before .before in
     let a = l .before .args in
-    sym (name-over (a .part .now) (a .name .now) (l .loop .i) (c .before .if1 .left) (omega arith)) ∙ l .loop .inv .2
-
-shared-slice-read-if3 : tie.Need-shared-slice-read-if3 Inv-loop μ-loop
-shared-slice-read-if3 c = search needs
-
-shared-slice-read-if3-2 : tie.Need-shared-slice-read-if3-2 Inv-loop μ-loop
-shared-slice-read-if3-2 c = search needs
+    let stops = string-stops (a .part .now) (l .loop .i) (c .before .if1 .taken) in
+    let e = ap length stops in
+    whole-answers _ _ (record { some = omega arith; within = omega arith; ended = omega arith })
+    (sym (string-over (a .part .now) (a .name .now) (l .loop .i) stops (omega arith)) ∙ l .loop .inv .3)
 
 returns-3 : tie.Need-returns-3 Inv-loop μ-loop
 returns-3 c =
+    let l = c .before .before .before .before in
+    let a = l .before .args in
+    unequal-answers _ _ (sym (l .loop .inv .3) ∙ name-over (a .part .now) (a .name .now) (l .loop .i) (c .before .if1 .left) (omega arith))
+
+shared-slice-read-if4 : tie.Need-shared-slice-read-if4 Inv-loop μ-loop
+shared-slice-read-if4 c = search needs
+
+shared-slice-read-if4-2 : tie.Need-shared-slice-read-if4-2 Inv-loop μ-loop
+shared-slice-read-if4-2 c = search needs
+
+returns-4 : tie.Need-returns-4 Inv-loop μ-loop
+returns-4 c =
     let l = c .before .before .before .before .before .before .before in
     let a = l .before .args in
     let nz = c .before .before .before .before .if1 .left in
-    sym (bytes-differ (a .part .now) (a .name .now) (l .loop .i) nz (omega arith) (c .if3 .taken)) ∙ l .loop .inv .2
+    unequal-answers _ _ (sym (l .loop .inv .3) ∙ bytes-differ (a .part .now) (a .name .now) (l .loop .i) nz (omega arith) (c .if4 .taken))
 
 add-i : tie.Need-add-i Inv-loop μ-loop
 add-i c = search needs
@@ -92,17 +120,20 @@ loop-again : tie.Need-loop-again Inv-loop μ-loop
 loop-again c =
     let l = c .before .before .before .before .before .before .before in
     let a = l .before .args in
-    let nz = c .before .before .before .before .if1 .left in (
+    let nz = c .before .before .before .before .if1 .left in
+    let e = ap length (string-goes-on (a .part .now) (l .loop .i) nz) in (
       omega arith,
       omega arith,
-      sym (bytes-agree (a .part .now) (a .name .now) (l .loop .i) nz (omega arith) (c .if3 .left)) ∙ l .loop .inv .2,
+      omega arith,
+      sym (bytes-agree (a .part .now) (a .name .now) (l .loop .i) nz (omega arith) (c .if4 .left)) ∙ l .loop .inv .3,
     )
 
-returns-4 : tie.Need-returns-4 Inv-loop μ-loop
-returns-4 c =
+returns-5 : tie.Need-returns-5 Inv-loop μ-loop
+unfolding isWhole
+returns-5 c =
     let l = c .before in
-    let a = l .before .args in
-    sym (string-over (a .part .now) (a .name .now) (l .loop .i) (string-ends (a .part .now) (l .loop .i) (c .loop-test .left)) (omega arith)) ∙ l .loop .inv .2
+    let e = ap length (string-ends (l .before .args .part .now) (l .loop .i) (c .loop-test .left)) in
+    other-answers _ _ (cut (omega arith) (omega arith)) refl
 
 pub same-spec : {M : Type 1} → statement M
 same-spec =
@@ -114,10 +145,11 @@ same-spec =
     shared-slice-read-if1
     returns
     returns-2
-    shared-slice-read-if3
-    shared-slice-read-if3-2
     returns-3
+    shared-slice-read-if4
+    shared-slice-read-if4-2
+    returns-4
     add-i
     loop-less
     loop-again
-    returns-4)
+    returns-5)

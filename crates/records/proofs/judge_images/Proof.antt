@@ -1,0 +1,86 @@
+-- `records::judge_images` meets its contract: the test asks what rule 10 asks, the images of a list that keeps it end inside, and the laws
+-- `list-broken` and `list-kept` say which rule is the first to be broken.
+use Prim.Native.Nat.{_+_, _*_, _≤_}
+use mathlib.Core.Path.{_≡_, ap, sym, _∙_}
+use mathlib.Core.Bool.{false, and-eq-true-iff}
+use native.Mathlib.Omega.{arith}
+use borrow.Author.Needs.{needs}
+use borrow.Author.Tests.{not-true, not-false}
+use lib.ListN.{length}
+use denote.Ref.{now}
+use Rattle.format.specs.Number.{be}
+use Rattle.format.specs.Record.{imagesRight}
+use Rattle.format.specs.Laws.Header.{header-right}
+use Rattle.format.specs.Laws.Reads.{list-ends}
+use Rattle.format.specs.Laws.Records.{list-broken, list-kept}
+use Rattle.tables.specs.declared.Tables.{Tables}
+use Rattle.records.proofs.judge_images.Statement.{statement}
+use Rattle.records.proofs.judge_images.Tie as tie
+
+listed : (c : tie.After-list-right)
+    → let a = c .before .before .before .args in c .list-right .result ≡ imagesRight (now (a .cache)) (a .offset)
+listed c = c .list-right .ensures ∙ rw (c .before .u32-at .ensures)
+
+ends-inside : (c : tie.Else1)
+    → let s = now (c .before .before .before .before .args .cache) in
+    let at = c .before .before .u32-at .result in
+    at + 4 + 8 * be 4 s at ≤ length s
+ends-inside c = list-ends _ _ 8 (and-eq-true-iff _ _ .0 (sym (c .before .list-right .ensures) ∙ not-false _ (c .if1 .left)) .0)
+
+add-u32-at : tie.Need-add-u32-at
+add-u32-at c = search needs
+
+u32-at-requires : tie.Need-u32-at-requires
+u32-at-requires c κs = search needs
+
+cast-at : tie.Need-cast-at
+cast-at c = search needs
+
+list-right-requires : tie.Need-list-right-requires
+list-right-requires c κs = search needs
+
+add-t11 : tie.Need-add-t11
+add-t11 c = search needs
+
+returns : tie.Need-returns
+returns c = sym (list-broken _ 0 _ (sym (listed (c .before)) ∙ not-true _ (c .if1 .taken)))
+
+u32-at-requires-2 : tie.Need-u32-at-requires-2
+u32-at-requires-2 c κs = omega (arith, ends-inside c)
+
+cast-m : tie.Need-cast-m
+cast-m c = search needs
+
+add-images : tie.Need-add-images
+add-images c = search needs
+
+images-requires : tie.Need-images-requires
+images-requires c κs =
+    let start = c .before .before .before .before .before in
+    let count = ap (λ (t : Tables). t .directories) (start .pre .0 .tables) in (
+      omega (arith, count, header-right _ (start .pre .0 .header) .directories-few),
+      count,
+      omega (arith, ends-inside (c .before), c .u32-at2 .ensures),
+    )
+
+returns-2 : tie.Need-returns-2
+returns-2 c =
+    let right = c .before .before in
+    c .images .ensures ∙ rw (c .before .u32-at2 .ensures, right .before .before .u32-at .ensures)
+    (sym (list-kept _ 0 _ (sym (listed (right .before)) ∙ not-false _ (right .if1 .left))))
+
+pub judge-images-spec : {M : Type 1} → statement M
+judge-images-spec =
+    tie.close
+    (tie.spec
+    add-u32-at
+    u32-at-requires
+    cast-at
+    list-right-requires
+    add-t11
+    returns
+    u32-at-requires-2
+    cast-m
+    add-images
+    images-requires
+    returns-2)

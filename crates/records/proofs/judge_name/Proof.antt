@@ -1,0 +1,102 @@
+-- `records::judge_name` meets its contract: what each test asks is what a rule of the definition asks, and the laws `name-unread`,
+-- `name-foreign` and `name-home` say which rule is the first to be broken.
+use Prim.Native.Nat.{ℕ, _%_}
+use mathlib.Core.Path.{_≡_, ap, sym, _∙_}
+use mathlib.Core.List.{List}
+use mathlib.Core.Bool.{true}
+use borrow.Author.Needs.{needs}
+use lib.ListN.{take}
+use lib.Seq.{take-all}
+use denote.Ref.{now}
+use Rattle.format.specs.Text.{string, text, isWhole, hash}
+use Rattle.format.specs.Header.{buckets}
+use Rattle.format.specs.Record.{nameOf, bucketOf, nameRight}
+use Rattle.format.specs.Laws.Strings.{whole-named}
+use Rattle.format.specs.Laws.Header.{header-right}
+use Rattle.format.specs.Laws.Records.{name-unread, name-foreign, name-home}
+use Rattle.text.proofs.Tags.{tag-whole, tag-not-whole}
+use Rattle.tables.specs.declared.Tables.{Tables}
+use Rattle.records.proofs.judge_name.Statement.{statement}
+use Rattle.records.proofs.judge_name.Tie as tie
+
+-- the call's start, from the place where the name is read, and from the place where the bucket is compared
+abbrev start : tie.After-read-name → tie.Start
+start c = c .before .before .before .before
+
+abbrev start-of-all : tie.After-struct-known2 → tie.Start
+start-of-all c = start (c .before .before .before .before)
+
+counted : (c : tie.Start) → c .args .t .buckets ≡ buckets (now (c .args .cache))
+counted c = ap (λ (t : Tables). t .buckets) (c .pre .0 .tables)
+
+named : (c : tie.After-read-name)
+    → let a = start c .args in isWhole (c .read-name .result .text) ≡ nameRight (now (a .cache)) (a .offset)
+named c = ap isWhole (c .read-name .ensures .0) ∙ ap (λ (t : List ℕ). isWhole (text 255 t)) (c .before .name-part .ensures)
+
+-- a name that keeps rule 8 was read to its end
+hashed : (c : tie.After-read-name)
+    → let a = start c .args in
+    nameRight (now (a .cache)) (a .offset) ≡ true → c .read-name .result .hash ≡ hash (nameOf (now (a .cache)) (a .offset))
+hashed c right =
+    c .read-name .ensures .1
+    ∙ ap (λ (t : List ℕ). hash (take 255 (string t))) (c .before .name-part .ensures)
+    ∙ ap hash (take-all 255 _ (whole-named 255 _ right .within))
+
+whole : (c : tie.After-struct-known2) → nameRight (now (start-of-all c .args .cache)) (start-of-all c .args .offset) ≡ true
+whole c = sym (named (c .before .before .before .before)) ∙ tag-whole _ (c .before .before .before .match .keys1)
+
+placed : (c : tie.After-struct-known2)
+    → let a = start-of-all c .args in
+    c .before .before .before .before .read-name .result .hash % a .t .buckets ≡ bucketOf (now (a .cache)) (nameOf (now (a .cache)) (a .offset))
+placed c =
+    let read = c .before .before .before .before in
+    ap (λ (b : ℕ). read .read-name .result .hash % b) (counted (start-of-all c)) ∙ ap (λ (h : ℕ). h % buckets (now (start-of-all c .args .cache))) (hashed read (whole c))
+
+returns : tie.Need-returns
+returns c = sym (c .before .before .pre .1 .1 (c .if1 .taken))
+
+name-part-requires : tie.Need-name-part-requires
+name-part-requires c κs = search needs
+
+read-name-requires : tie.Need-read-name-requires
+read-name-requires c κs = search needs
+
+enum-told : tie.Need-enum-told
+enum-told c = search needs
+
+add-t10 : tie.Need-add-t10
+add-t10 c = search needs
+
+returns-2 : tie.Need-returns-2
+returns-2 c = sym (name-unread _ _ _ (sym (named (c .before)) ∙ tag-not-whole _ (c .match .keys2)))
+
+cast-if2 : tie.Need-cast-if2
+cast-if2 c = search needs
+
+rem-if2 : tie.Need-rem-if2
+rem-if2 c = rw (counted (start-of-all c)) (header-right _ (start-of-all c .pre .0 .header) .buckets-some)
+
+add-t13 : tie.Need-add-t13
+add-t13 c = search needs
+
+returns-3 : tie.Need-returns-3
+returns-3 c = sym (name-foreign _ _ _ (whole (c .before)) (rw (placed (c .before)) at (c .if2 .taken)))
+
+returns-4 : tie.Need-returns-4
+returns-4 c = sym (name-home _ _ _ (whole (c .before)) (rw (placed (c .before)) at (c .if2 .left)))
+
+pub judge-name-spec : {M : Type 1} → statement M
+judge-name-spec =
+    tie.close
+    (tie.spec
+    returns
+    name-part-requires
+    read-name-requires
+    enum-told
+    add-t10
+    returns-2
+    cast-if2
+    rem-if2
+    add-t13
+    returns-3
+    returns-4)
