@@ -24,7 +24,7 @@ use std::time::{Duration, Instant};
 
 /// The benchmark ends soon after, on a slow machine too.
 const AT_MOST: Duration = Duration::from_secs(114);
-const ROUNDS: usize = 15;
+const ROUNDS: usize = 25;
 
 fn main() {
     let start = Instant::now();
