@@ -6,7 +6,7 @@ use mathlib.Core.List.{List}
 use mathlib.Core.Bool.{Bool, true, false, not}
 use native.Mathlib.Nat.{zero-add, sub-zero}
 use native.Mathlib.Omega.{arith}
-use borrow.Author.Tests.{le-leb, lt-leb, not-false}
+use borrow.Author.Tests.{le-leb, lt-leb}
 use lib.ListN.{length}
 use lib.Dec.{leb}
 use Rattle.format.specs.Choice.{if_then_else_}
@@ -20,7 +20,7 @@ use Rattle.format.specs.Words.{link, KeepsAt, KeepsBelow, NoneBelow, Hol
 use Rattle.format.specs.declared.Fault.{Fault}
 use Rattle.format.specs.declared.Ending.{Ending}
 use Rattle.format.specs.declared.LookupAnswer.{LookupAnswer}
-use Rattle.format.specs.Laws.Faults.{orElse-none, given-none, broken-speaks, kept-passes}
+use Rattle.format.specs.Laws.Faults.{broken-speaks, kept-passes}
 use Rattle.format.specs.Laws.Links.{Repeat, earlier, once, goes-on, never-breaks, broken-keeps, broken-number, holds-le, before-end}
 use Rattle.format.specs.Laws.Apart.{apart-none, few-steps, repeats}
 use Rattle.format.specs.Laws.Along.{walk-ends, walk-meets, walk-breaks, walk-lasts}
@@ -56,11 +56,6 @@ module _ (s name : List ℕ) where
   -- an allowed name under a sound header is looked for
   pub query-right : allowed name ≡ true → headerFault s .number ≡ 0 → queryFault s name .number ≡ 0
   query-right a e = rw (query-allowed (ap not a)) e
-
-  -- and only such a name is
-  pub query-asks : queryFault s name .number ≡ 0 → (allowed name ≡ true) × (headerFault s .number ≡ 0)
-  unfolding queryFault
-  query-asks e = let h = orElse-none _ _ e in (not-false _ (given-none _ _ _ (h .0)), h .1)
 
 -- the two answers to a met record
 module _ (s : List ℕ) (room r o : ℕ) where

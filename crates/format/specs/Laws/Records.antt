@@ -8,7 +8,7 @@ use borrow.Author.Tests.{eq-eqb, ne-eqb}
 use lib.ListN.{length}
 use Rattle.format.specs.Fault.{fault, noFault, given}
 use Rattle.format.specs.Text.{sameBytes}
-use Rattle.format.specs.Record.{namePart, nameOf, bucketOf, imagesAt, images, nameRight, bucketRight, imagesRight, imagesFault, nameFault, listFault, recordFault}
+use Rattle.format.specs.Record.{namePart, nameOf, bucketOf, imagesAt, images, nameRight, imagesRight, imagesFault, nameFault, listFault, recordFault}
 use Rattle.format.specs.Laws.Strings.{whole-named}
 use Rattle.format.specs.Laws.Names.{same-equal, other-unequal}
 use Rattle.format.specs.Laws.Faults.{orElse-first, orElse-next, broken-speaks, kept-passes}

@@ -1,7 +1,6 @@
 -- `records::judge` meets its contract: the laws `record-misnamed` and `record-named` say which part judges first.
-use mathlib.Core.Path.{_≡_, ap, sym, _∙_}
+use mathlib.Core.Path.{ap, sym, _∙_}
 use borrow.Author.Needs.{needs}
-use denote.Ref.{now}
 use Rattle.format.specs.declared.Fault.{Fault}
 use Rattle.format.specs.Laws.Records.{record-misnamed, record-named}
 use Rattle.records.proofs.judge.Statement.{statement}
