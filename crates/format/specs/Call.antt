@@ -32,7 +32,7 @@ directoryIs n p = record { number = n; place = p }
 abbrev pub partIs : ℕ → ℕ → ℕ → ℕ → DirectoryPart
 partIs n p a l = record { number = n; place = p; start = a; length = l }
 
--- the check of n buckets from bucket k on, after o records opened before
+-- the check of n buckets from bucket k on, after o records opened before; no record is met, since none that keeps rule 8 bears the empty name
 unfoldable pub checkBuckets : ℕ → List ℕ → ℕ → ℕ → CheckAnswer
 checkBuckets zero s k o = checked 0 0 (directories s) o o
 checkBuckets (suc n) s k o =
@@ -44,6 +44,7 @@ checkBuckets (suc n) s k o =
       | Endless ↦ checked 12 (bucketField s k) 0 0 (w .opened)
     ]
 
+-- the check: 1 to 6, then the chains of all buckets from 0 up; with a refusal directories and icons are 0
 unfoldable pub check : List ℕ → CheckAnswer
 check s =
     let f = tablesFault s in
@@ -70,6 +71,7 @@ lookupEnds s k room (Met r) o = metAnswer s room r o
 lookupEnds s k room (Broken m p) o = lookedUp m p 0 o
 lookupEnds s k room Endless o = lookedUp 12 (bucketField s k) 0 o
 
+-- the lookup: 13, then 1 to 5, then the walk of the name's own bucket
 unfoldable pub lookup : List ℕ → List ℕ → ℕ → LookupAnswer
 lookup s name room =
     let f = queryFault s name in
@@ -81,6 +83,7 @@ unfoldable pub answerWords : List ℕ → List ℕ → LookupAnswer → List ℕ
 answerWords s words a =
     elim (a .number) [ zero ↦ imageWords (a .images) s (imagesAt s (a .place) + 4) ++ drop (2 * (a .images)) words | suc m ↦ words ]
 
+-- the lent words after a lookup
 abbrev pub lookupWords : List ℕ → List ℕ → List ℕ → List ℕ
 lookupWords s name words = answerWords s words (lookup s name (length words))
 
@@ -88,6 +91,7 @@ lookupWords s name words = answerWords s words (lookup s name (length words))
 unfoldable pub directoryFault : List ℕ → ℕ → Fault
 directoryFault s i = headerFault s orElse given (not (ltb i (directories s))) 15 0 orElse pathFault s i
 
+-- the number call
 unfoldable pub directory : List ℕ → ℕ → DirectoryAnswer
 directory s i = directoryIs (directoryFault s i .number) (directoryFault s i .place)
 

@@ -19,6 +19,6 @@ infixr 20 _orElse_
 unfoldable pub _orElse_ : Fault → Fault → Fault
 _orElse_ x y = elim (x .number) [ zero ↦ y | suc n ↦ x ]
 
--- a number that goes with no broken rule, and 0 with one
+-- n where no rule is broken, and 0 where one is
 abbrev pub ifKept : Fault → ℕ → ℕ
 ifKept x n = elim (x .number) [ zero ↦ n | suc m ↦ 0 ]

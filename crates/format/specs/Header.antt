@@ -1,10 +1,10 @@
 -- The header, the directory list and the hash: rules 1 to 6.
-use Prim.Native.Nat.{ℕ, zero, suc, _+_, _*_}
+use Prim.Native.Nat.{ℕ, zero, suc}
 use mathlib.Core.List.{List}
 use mathlib.Core.Bool.{Bool, not, _&&_}
 use lib.ListN.{length, getD, drop}
 use lib.Dec.{ltb, leb, eqb}
-use Rattle.format.specs.Number.{be, listInside}
+use Rattle.format.specs.Number.{be, entryField, listInside}
 use Rattle.format.specs.Fault.{noFault, given, _orElse_}
 use Rattle.format.specs.Text.{string, text, isWhole}
 use Rattle.format.specs.declared.Fault.{Fault}
@@ -13,7 +13,7 @@ use Rattle.format.specs.declared.Fault.{Fault}
 abbrev pub endValue : ℕ
 endValue = 0xFFFFFFFF
 
--- where the hash and the directory list stand, and their counts
+-- where the hash and the directory list stand (HASH_OFFSET, DIRECTORY_LIST_OFFSET), and their counts
 abbrev pub hashAt : List ℕ → ℕ
 hashAt s = be 4 s 4
 
@@ -28,13 +28,13 @@ directories s = be 4 s (directoriesAt s)
 
 -- the field of bucket k
 abbrev pub bucketField : List ℕ → ℕ → ℕ
-bucketField s k = hashAt s + 4 + 4 * k
+bucketField s k = entryField (hashAt s) k
 
 -- the field of the path of directory i
 abbrev pub pathField : List ℕ → ℕ → ℕ
-pathField s i = directoriesAt s + 4 + 4 * i
+pathField s i = entryField (directoriesAt s) i
 
--- what rules 3 to 5 ask
+-- what rules 3 to 5 ask; MAJOR and MINOR are the u16 at 0 and at 2
 abbrev pub versionRight : List ℕ → Bool
 versionRight s = eqb (be 2 s 0) 1 && eqb (be 2 s 2) 0
 

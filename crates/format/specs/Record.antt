@@ -7,11 +7,11 @@ use lib.Dec.{ltb, leb, eqb}
 use Rattle.format.specs.Choice.{if_then_else_}
 use Rattle.format.specs.Number.{be, listInside}
 use Rattle.format.specs.Fault.{noFault, given, _orElse_}
-use Rattle.format.specs.Text.{string, text, isWhole, hash}
+use Rattle.format.specs.Text.{string, text, isWhole, sameBytes, hash}
 use Rattle.format.specs.Header.{buckets, directories}
 use Rattle.format.specs.declared.Fault.{Fault}
 
--- the buffer from the name of record r on, and the name
+-- the buffer from the name of record r on (NAME_OFFSET), and the name
 abbrev pub namePart : List ℕ → ℕ → List ℕ
 namePart s r = drop (be 4 s (r + 4)) s
 
@@ -22,26 +22,26 @@ nameOf s r = string (namePart s r)
 abbrev pub bucketOf : List ℕ → List ℕ → ℕ
 bucketOf s name = hash name % buckets s
 
--- where the image list of record r stands, and its count
+-- where the image list of record r stands (IMAGE_LIST_OFFSET), and its count
 abbrev pub imagesAt : List ℕ → ℕ → ℕ
 imagesAt s r = be 4 s (r + 8)
 
 abbrev pub images : List ℕ → ℕ → ℕ
 images s r = be 4 s (imagesAt s r)
 
--- with no directories each index is 0xFFFF, and otherwise it is below their count
+-- with no directories each index is 0xFFFF, and otherwise it is below their count, which is at most 65,535
 abbrev pub indexRight : ℕ → ℕ → Bool
 indexRight n i = if eqb n 0 then eqb i 0xFFFF else ltb i n
 
--- what rules 8 to 11 ask: of the record r on the chain of bucket k, and of the image at `at`
+-- what rules 8 to 11 ask: 8 and 9 of the name of record r on the chain of bucket k, 10 of the image list at `at`, 11 of the image at `at`
 abbrev pub nameRight : List ℕ → ℕ → Bool
 nameRight s r = isWhole (text 255 (namePart s r))
 
 abbrev pub bucketRight : List ℕ → ℕ → ℕ → Bool
 bucketRight s k r = eqb (bucketOf s (nameOf s r)) k
 
-abbrev pub imagesRight : List ℕ → ℕ → Bool
-imagesRight s r = listInside s (imagesAt s r) 8 && leb (images s r) 1024
+abbrev pub listRight : List ℕ → ℕ → Bool
+listRight s at = listInside s at 8 && leb (be 4 s at) 1024
 
 abbrev pub imageRight : List ℕ → ℕ → Bool
 imageRight s at = indexRight (directories s) (be 2 s at) && leb (be 2 s (at + 2)) 15
@@ -56,12 +56,20 @@ unfoldable pub nameFault : List ℕ → ℕ → ℕ → Fault
 nameFault s k r = given (not (nameRight s r)) 8 (r + 4) orElse given (not (bucketRight s k r)) 9 (r + 4)
 
 unfoldable pub listFault : List ℕ → ℕ → Fault
-listFault s r = given (not (imagesRight s r)) 10 (r + 8) orElse imagesFault (images s r) s (imagesAt s r + 4)
+listFault s r = given (not (listRight s (imagesAt s r))) 10 (r + 8) orElse imagesFault (images s r) s (imagesAt s r + 4)
 
 unfoldable pub recordFault : List ℕ → ℕ → ℕ → Fault
 recordFault s k r = nameFault s k r orElse listFault s r
 
--- the two words of each of m images from `at` on
+-- the record r has a whole name, and it is `name`
+abbrev pub bearsName : List ℕ → ℕ → List ℕ → Bool
+bearsName s r name = nameRight s r && sameBytes (nameOf s r) name
+
+-- the first word of the image at `at`: its index times 65,536 plus its flags
+abbrev pub firstWord : List ℕ → ℕ → ℕ
+firstWord s at = be 2 s at * 65536 + be 2 s (at + 2)
+
+-- the two words of each of m images from `at` on, the second its IMAGE_DATA_OFFSET
 unfoldable pub imageWords : ℕ → List ℕ → ℕ → List ℕ
 imageWords zero s at = []
-imageWords (suc m) s at = (be 2 s at * 65536 + be 2 s (at + 2)) ∷ (be 4 s (at + 4) ∷ imageWords m s (at + 8))
+imageWords (suc m) s at = firstWord s at ∷ (be 4 s (at + 4) ∷ imageWords m s (at + 8))

@@ -14,8 +14,8 @@ string [] = []
 string (zero ∷ t) = []
 string (suc b ∷ t) = suc b ∷ string t
 
--- what the string at the front of t is, within the limit: too long if more than the limit's bytes come before a zero byte, cut off if
--- none comes at all
+-- what the string at the front of t is, within the limit: too long if its first limit + 1 bytes lie inside without a zero byte, else cut off
+-- if no zero byte comes
 unfoldable pub text : ℕ → List ℕ → Text
 text limit t =
     let n = length (string t) in
@@ -34,11 +34,12 @@ sameBytes [] (b ∷ t) = false
 sameBytes (a ∷ s) [] = false
 sameBytes (a ∷ s) (b ∷ t) = eqb a b && sameBytes s t
 
--- the hash of a name, from its first byte on: 31 times the hash so far plus the byte, modulo 2^32
+-- the hash after the bytes that are left: 31 times the hash so far plus the byte, modulo 2^32
 unfoldable pub hashFrom : ℕ → List ℕ → ℕ
 hashFrom h [] = h
 hashFrom h (b ∷ t) = hashFrom ((31 * h + b) % 2 ^ 32) t
 
+-- the hash of a name: the first byte, then one step for each later one
 unfoldable pub hash : List ℕ → ℕ
 hash [] = 0
 hash (b ∷ t) = hashFrom b t

@@ -1,4 +1,4 @@
--- The words of demand 3, apart from any walk, and what the answers have to be in these words.
+-- The words of demand 3, apart from any walk, and what the answers have to be in these words. A record is given by its offset.
 use Prim.Native.Nat.{ℕ, zero, suc, _+_, _-_, _≤_, _<_}
 use mathlib.Core.Path.{_≡_}
 use mathlib.Core.List.{List}
@@ -12,7 +12,7 @@ use Rattle.format.specs.Fault.{fault, given, _orElse_}
 use Rattle.format.specs.Text.{allowed}
 use Rattle.format.specs.Header.{endValue, tablesFault, directories, buckets, bucketField}
 use Rattle.format.specs.Record.{recordFault, nameOf, bucketOf}
-use Rattle.format.specs.Call.{check, checked, lookup, metAnswer, lookedUp}
+use Rattle.format.specs.Call.{check, checked, queryFault, lookup, metAnswer, lookedUp}
 use Rattle.format.specs.declared.CheckAnswer.{CheckAnswer}
 use Rattle.format.specs.declared.LookupAnswer.{LookupAnswer}
 
@@ -40,6 +40,7 @@ pub record OnChain (s : List ℕ) (k n r : ℕ) : Type 0 where
   pub named : link s k n ≡ r
   pub real : r ≡ endValue → ⊥
 
+-- the end value is never reached, and each step names a record that lies inside
 abbrev pub NeverEnds : List ℕ → ℕ → Type 0
 NeverEnds s k = (n : ℕ) → Goes s k n
 
@@ -81,6 +82,7 @@ pub record HeldBefore (s : List ℕ) (k : ℕ) : Type 0 where
   pub sound : Sound s
   pub lower : (j : ℕ) → j < k → (n : ℕ) × Holds s j n
 
+-- none of 1 to 6 stands, and every chain holds
 abbrev pub Accepted : List ℕ → Type 0
 Accepted s = HeldBefore s (buckets s)
 
@@ -119,9 +121,11 @@ pub record LookupDemand (s name : List ℕ) (a : LookupAnswer) : Type 0 where
   pub opens : (n : ℕ) → Holds s (bucketOf s name) n → a .opened ≤ n
   pub absent : (a .number ≡ 30) ↔ ((k n r : ℕ) → k < buckets s → OnChain s k n r → nameOf s r ≡ name → ⊥)
 
+-- and of any lookup: it is asked for in an accepted cache and of an allowed name
 abbrev pub LookupKept : List ℕ → List ℕ → LookupAnswer → Type 0
 LookupKept s name a = Accepted s → allowed name ≡ true → LookupDemand s name a
 
+-- demand 3: of the check, of the records of an accepted cache, and of every lookup
 pub record Demand3 (s : List ℕ) : Type 0 where
   pub checks : CheckDemand s (check s)
   pub apart : Accepted s → (j k m n r : ℕ) → j < buckets s → k < buckets s → OnChain s j m r → OnChain s k n r → (j ≡ k) × (m ≡ n)
@@ -137,8 +141,8 @@ pub record CheckAnswers (s : List ℕ) : Type 0 where
       → check s ≡ checked x p 0 0 (sum f k + n + itself x)
   pub refuses-loop : (k : ℕ) → Loops s k → check s ≡ checked 12 (bucketField s k) 0 0 (length s - 10)
 
--- A lookup's whole answer in these words, for a name of bucket k.
-pub record LookupAnswers (s name : List ℕ) (room k : ℕ) : Type 0 where
+-- The answer of a lookup that comes to its walk; k is the name's bucket.
+pub record WalkAnswers (s name : List ℕ) (room k : ℕ) : Type 0 where
   pub absent : (n : ℕ) → Holds s k n → NoneBelow s name k n → lookup s name room ≡ lookedUp 30 0 0 n
   pub found : (n : ℕ) → KeepsBelow s k n → NoneBelow s name k n → KeepsAt s k n → nameOf s (link s k n) ≡ name
       → lookup s name room ≡ metAnswer s room (link s k n) (n + 1)
@@ -146,3 +150,8 @@ pub record LookupAnswers (s name : List ℕ) (room k : ℕ) : Type 0 where
   pub refuses-loop : Turns s k → ((n : ℕ) → nameOf s (link s k n) ≡ name → ⊥)
       → lookup s name room ≡ lookedUp 12 (bucketField s k) 0 (length s - 10)
   pub loop : (lookup s name room .number ≡ 12) ↔ (Turns s k × ((n : ℕ) → nameOf s (link s k n) ≡ name → ⊥))
+
+-- A lookup's whole answer in these words: refused before its walk, or as the chain of the name's bucket is.
+pub record LookupAnswers (s name : List ℕ) (room : ℕ) : Type 0 where
+  pub refuses-query : (x p : ℕ) → queryFault s name ≡ fault (suc x) p → lookup s name room ≡ lookedUp (suc x) p 0 0
+  pub walks : queryFault s name .number ≡ 0 → WalkAnswers s name room (bucketOf s name)

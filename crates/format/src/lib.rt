@@ -25,7 +25,7 @@ pub enum Ending {
     Met(usize),
     // A record breaks a rule: the rule's number and its place.
     Broken(u32, usize),
-    // As many records opened as no chain that ends can have.
+    // L - 10 records opened in the call, one more than chains that end can hold together.
     Endless,
 }
 

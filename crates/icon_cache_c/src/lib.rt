@@ -1,5 +1,5 @@
 // The public calls for C: bindings/c/icon_cache.h declares them. Each hands on the library's answer whole, the number as its result and the
-// rest through the pointers.
+// rest through the pointers; but the path call leaves out the place, which `icon_cache_directory` gives.
 ghost use mathlib.Core.Path.{_≡_};
 ghost use lib.ListN.{length};
 ghost use Rattle.format.specs.Call.{check, checked, lookup, lookupWords, lookedUp, directory, directoryIs, directoryPart, partIs};

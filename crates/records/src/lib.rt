@@ -1,15 +1,13 @@
 // An icon record of a cache: rules 8 to 11, whether it bears a name, and the words of its images.
 ghost use mathlib.Core.Path.{_≡_};
 ghost use mathlib.Core.List.{_++_};
-ghost use mathlib.Core.Bool.{true, _&&_};
+ghost use mathlib.Core.Bool.{true};
 ghost use Prim.Native.Nat.{_+_, _*_, _^_, _≤_, _<_};
 ghost use lib.ListN.{length, drop};
-ghost use lib.Dec.{leb};
-ghost use Rattle.format.specs.Number.{be, listInside};
+ghost use Rattle.format.specs.Number.{be};
 ghost use Rattle.format.specs.Fault.{noFault};
-ghost use Rattle.format.specs.Text.{sameBytes};
 ghost use Rattle.format.specs.Header.{directories};
-ghost use Rattle.format.specs.Record.{nameOf, nameRight, imageRight, imagesFault, nameFault, listFault, recordFault, imageWords};
+ghost use Rattle.format.specs.Record.{namePart, bearsName, listRight, imageRight, imagesFault, nameFault, listFault, recordFault, firstWord, imageWords};
 ghost use Rattle.tables.specs.Tables.{Right};
 ghost use Rattle.records.specs.RightWords.{rightWords};
 use bigendian::u16_at;
@@ -20,10 +18,10 @@ use std::num::wrapping_sub_u32;
 use tables::Tables;
 use tables::list_inside;
 
-// The first words of images whose index is right: `span` of them from `first` on. The index is the high half of the word, so those words follow one
+// The first words of images whose index is right: `span` of them from `lowest` on. The index is the high half of the word, so those words follow one
 // another and one test settles the index of an image.
 struct RightWords {
-    first: u32,
+    lowest: u32,
     span: u32,
 }
 
@@ -34,12 +32,12 @@ fn right_words(n: usize) -> RightWords
 {
     if n == 0 {
         RightWords {
-            first: 0xFFFF_0000,
+            lowest: 0xFFFF_0000,
             span: 0x1_0000,
         }
     } else {
         RightWords {
-            first: 0,
+            lowest: 0,
             span: n as u32 * 0x1_0000,
         }
     }
@@ -48,7 +46,7 @@ fn right_words(n: usize) -> RightWords
 // The first word of the image at `at`: its index times 65,536 plus its flags.
 fn first_word(cache: &[u8], at: usize) -> u32
     requires { ⌜ at + 8 ≤ length (now cache) ⌝ }
-    ensures word { λ r. ⌜ r ≡ be 2 (now (cache .entry)) at * 65536 + be 2 (now (cache .entry)) (at + 2) ⌝ }
+    ensures word { λ r. ⌜ r ≡ firstWord (now (cache .entry)) at ⌝ }
     ensures flags { λ r. ⌜ be 2 (now (cache .entry)) (at + 2) < 65536 ⌝ }
 {
     let index = u16_at(cache, at) as u32;
@@ -63,7 +61,7 @@ fn image_right(cache: &[u8], right: RightWords, at: usize) -> bool
     ensures { λ r. ⌜ r ≡ imageRight (now (cache .entry)) at ⌝ }
 {
     let word = first_word(cache, at);
-    if wrapping_sub_u32(word, right.first) < right.span {
+    if wrapping_sub_u32(word, right.lowest) < right.span {
         word % 0x1_0000 <= 15
     } else {
         false
@@ -97,7 +95,7 @@ fn images(cache: &[u8], n: usize, m: usize, at: usize) -> Fault
 // Whether the image list at `at` lies inside and is not too long.
 fn list_right(cache: &[u8], at: usize) -> bool
     requires { ⌜ at < 2 ^ 32 ⌝ }
-    ensures { λ r. ⌜ r ≡ (listInside (now (cache .entry)) at 8 && leb (be 4 (now (cache .entry)) at) 1024) ⌝ }
+    ensures { λ r. ⌜ r ≡ listRight (now (cache .entry)) at ⌝ }
 {
     if list_inside(cache, at, 8) {
         u32_at(cache, at) <= 1024
@@ -109,7 +107,7 @@ fn list_right(cache: &[u8], at: usize) -> bool
 // The part of the cache from the name of the record at `offset` on.
 fn name_part(cache: &[u8], offset: usize) -> &[u8]
     requires { ⌜ offset + 12 ≤ length (now cache) ⌝ }
-    ensures { λ r. ⌜ now r ≡ drop (be 4 (now (cache .entry)) (offset + 4)) (now (cache .entry)) ⌝ }
+    ensures { λ r. ⌜ now r ≡ namePart (now (cache .entry)) offset ⌝ }
 {
     let at = u32_at(cache, offset + 4) as usize;
     text::from(cache, at)
@@ -183,7 +181,7 @@ pub fn judge(cache: &[u8], t: Tables, bucket: usize, offset: usize, known: bool)
 // Whether the record at `offset` has a whole name and it is `name`.
 pub fn bears(cache: &[u8], offset: usize, name: &[u8]) -> bool
     requires { ⌜ (offset + 12 ≤ length (now cache)) × (length (now name) ≤ 255) ⌝ }
-    ensures { λ r. ⌜ r ≡ (nameRight (now (cache .entry)) offset && sameBytes (nameOf (now (cache .entry)) offset) (now (name .entry))) ⌝ }
+    ensures { λ r. ⌜ r ≡ bearsName (now (cache .entry)) offset (now (name .entry)) ⌝ }
 {
     let part = name_part(cache, offset);
     text::same(part, name)

@@ -1,11 +1,11 @@
 -- Where the two tables of a cache stand and how many entries they have, and the fields of their entries.
-use Prim.Native.Nat.{ℕ, suc, _+_, _*_}
+use Prim.Native.Nat.{ℕ}
 use mathlib.Core.Path.{_≡_}
 use mathlib.Core.List.{List}
 use lib.ListN.{length}
 use Rattle.format.specs.Choice.{if_then_else_}
-use Rattle.format.specs.Number.{be, listInside}
-use Rattle.format.specs.Fault.{fault, noFault, ifKept}
+use Rattle.format.specs.Number.{be, entryField, listInside}
+use Rattle.format.specs.Fault.{fault, ifKept}
 use Rattle.format.specs.Header.{headerFault, hashAt, buckets, directoriesAt, directories, pathField, pathOf, pathFault}
 use Rattle.tables.specs.declared.Tables.{Tables}
 use Rattle.tables.specs.declared.JudgedPath.{JudgedPath}
@@ -24,10 +24,10 @@ pub record Right (s : List ℕ) (t : Tables) : Type 0 where
 
 -- the field of bucket k, and that of the path of directory i
 abbrev pub bucketFieldOf : Tables → ℕ → ℕ
-bucketFieldOf t k = t .«hash_at» + 4 + 4 * k
+bucketFieldOf t k = entryField (t .«hash_at») k
 
 abbrev pub pathFieldOf : Tables → ℕ → ℕ
-pathFieldOf t i = t .«directories_at» + 4 + 4 * i
+pathFieldOf t i = entryField (t .«directories_at») i
 
 -- what is judged of the path of directory i, and where it stands if it keeps the rule
 abbrev pub pathJudged : List ℕ → ℕ → JudgedPath
@@ -40,10 +40,3 @@ pathJudged s i = record {
 -- a path that breaks rule x, named at p
 abbrev pub pathBroken : ℕ → ℕ → JudgedPath
 pathBroken x p = record { fault = fault x p; start = 0; length = 0 }
-
-pub judged-broken : (s : List ℕ) (i : ℕ) {x p : ℕ} → pathFault s i ≡ fault (suc x) p → pathJudged s i ≡ pathBroken (suc x) p
-judged-broken s i e = rw e
-
-pub judged-kept : (s : List ℕ) (i : ℕ) → pathFault s i ≡ noFault
-    → pathJudged s i ≡ record { fault = noFault; start = be 4 s (pathField s i); length = length (pathOf s i) }
-judged-kept s i e = rw e

@@ -1,20 +1,18 @@
 -- `chains::walk` meets its contract. The loop's invariant: the rest equals the whole, the walk from the present field on ends as the
 -- walk from the bucket's field on does. Each way out is a law of the definition (`walk-ended`, `walk-outside`, `walk-broken`,
--- `walk-met`), and one more turn is `walk-next`.
+-- `walk-met`), and one more turn is `walk-next`. A name that is the wanted one keeps rules 8 and 9 (`met-home`), so `judge` may be told.
 use Prim.Native.Nat.{suc, _+_, _-_, _≤_}
-use mathlib.Core.Path.{_≡_, ap, sym, _∙_}
-use mathlib.Core.Bool.{_&&_}
+use mathlib.Core.Path.{_≡_, sym, _∙_}
 use native.Mathlib.Omega.{arith}
 use borrow.Author.Needs.{needs}
 use lib.ListN.{length}
 use denote.Ref.{now}
 use Rattle.format.specs.Number.{be}
-use Rattle.format.specs.Text.{sameBytes}
-use Rattle.format.specs.Header.{bucketField}
-use Rattle.format.specs.Record.{nameOf, nameRight}
+use Rattle.format.specs.Header.{endValue, bucketField}
+use Rattle.format.specs.Record.{bearsName}
 use Rattle.format.specs.Chain.{walk, walkBucket}
 use Rattle.format.specs.Words.{Keeps}
-use Rattle.format.specs.declared.Fault.{Fault}
+use Rattle.format.specs.Laws.Faults.{same-number}
 use Rattle.format.specs.Laws.Header.{header-right}
 use Rattle.format.specs.Laws.Records.{met-same, unmet-other, met-home}
 use Rattle.format.specs.Laws.Rules.{record-right}
@@ -23,26 +21,32 @@ use Rattle.chains.proofs.walk.Statement.{statement}
 use Rattle.chains.proofs.walk.Tie as tie
 
 abbrev Inv-loop : tie.InvT-loop
-Inv-loop cache t bucket wanted opened limit field₀ count₀ field count =
+Inv-loop cache t bucket wanted earlier limit field₀ opened₀ field opened =
     (field + 4 ≤ length cache)
-    × (walk (length cache - 10 - count) cache wanted bucket field count ≡ walkBucket cache wanted bucket opened)
+    × (walk (length cache - 10 - opened) cache wanted bucket field opened ≡ walkBucket cache wanted bucket earlier)
 
 abbrev μ-loop : tie.MeasureT-loop
-μ-loop cache t bucket wanted opened limit field₀ count₀ field count = length cache - 10 - count
+μ-loop cache t bucket wanted earlier limit field₀ opened₀ field opened = length cache - 10 - opened
 
 -- a turn is one record more
 turn : (c : tie.In-loop Inv-loop μ-loop)
     → let l = c .before in
     let a = l .before .before .before .before .args in
-    walk (suc (length (now (a .cache)) - 10 - (l .loop .count + 1))) (now (a .cache)) (now (a .wanted)) (a .bucket) (l .loop .field) (l .loop .count)
-    ≡ walkBucket (now (a .cache)) (now (a .wanted)) (a .bucket) (a .opened)
+    walk (suc (length (now (a .cache)) - 10 - (l .loop .opened + 1))) (now (a .cache)) (now (a .wanted)) (a .bucket) (l .loop .field) (l .loop .opened)
+    ≡ walkBucket (now (a .cache)) (now (a .wanted)) (a .bucket) (a .earlier)
 turn c =
     let l = c .before in
     let s = now (l .before .before .before .before .args .cache) in
-    let more : length s - 10 - l .loop .count ≡ suc (length s - 10 - (l .loop .count + 1)) = omega arith in
+    let more : length s - 10 - l .loop .opened ≡ suc (length s - 10 - (l .loop .opened + 1)) = omega arith in
     rw more at (l .loop .inv .1)
 
--- the record that a turn has judged keeps the rules
+-- the record that a turn names is one, and keeps the rules once it is judged
+named : (c : tie.Else1 Inv-loop μ-loop)
+    → let l = c .before .before .before in
+    let a = l .before .before .before .before .args in
+    be 4 (now (a .cache)) (l .loop .field) ≡ endValue → ⊥
+named c = rw (c .before .u32-at .ensures) at (c .if1 .left)
+
 kept : (c : tie.Else3 Inv-loop μ-loop)
     → let l = c .before .before .before .before .before .before .before .before in
     let a = l .before .before .before .before .args in
@@ -52,7 +56,7 @@ kept c =
     let read = judged .before .before .before .before in
     rw (← (read .u32-at .ensures)) (record {
       inside = judged .before .before .if2 .left;
-      rules = ap (λ (f : Fault). f .number) (sym (judged .judge .ensures)) ∙ c .if3 .left;
+      rules = same-number (sym (judged .judge .ensures)) ∙ c .if3 .left;
     })
 
 -- what the comparison has told of it
@@ -60,7 +64,7 @@ compared : (c : tie.After-bears Inv-loop μ-loop)
     → let l = c .before .before .before .before .before in
     let a = l .before .before .before .before .args in
     let r = be 4 (now (a .cache)) (l .loop .field) in
-    c .bears .result ≡ (nameRight (now (a .cache)) r && sameBytes (nameOf (now (a .cache)) r) (now (a .wanted)))
+    c .bears .result ≡ bearsName (now (a .cache)) r (now (a .wanted))
 compared c = rw (← (c .before .before .before .u32-at .ensures)) (c .bears .ensures)
 
 sub-limit : tie.Need-sub-limit Inv-loop μ-loop
@@ -92,11 +96,11 @@ add-if2 c = search needs
 returns-2 : tie.Need-returns-2 Inv-loop μ-loop
 returns-2 c =
     let read = c .before .before in
-    sym (walk-outside _ _ _ _ _ _ (rw (read .u32-at .ensures) at (c .before .if1 .left)) (λ h. omega (arith, read .u32-at .ensures)))
+    sym (walk-outside _ _ _ _ _ _ (named (c .before)) (λ h. omega (arith, read .u32-at .ensures)))
     ∙ turn (read .before)
 
-add-count : tie.Need-add-count Inv-loop μ-loop
-add-count c = omega arith
+add-opened : tie.Need-add-opened Inv-loop μ-loop
+add-opened c = omega arith
 
 bears-requires : tie.Need-bears-requires Inv-loop μ-loop
 bears-requires c κs = (c .if2 .left, c .before .before .before .before .before .before .before .before .pre .1 .1 .0)
@@ -110,7 +114,7 @@ returns-3 : tie.Need-returns-3 Inv-loop μ-loop
 returns-3 c =
     let judged = c .before .before in
     let read = judged .before .before .before .before in
-    let real = rw (read .u32-at .ensures) at (judged .before .before .before .if1 .left) in
+    let real = named (judged .before .before .before) in
     let inside = rw (read .u32-at .ensures) at (judged .before .before .if2 .left) in
     let broken = rw (judged .judge .ensures, read .u32-at .ensures) at (c .if3 .taken) in
     rw (judged .judge .ensures, read .u32-at .ensures) (sym (walk-broken _ _ _ _ _ _ real inside broken) ∙ turn (read .before))
@@ -119,7 +123,7 @@ returns-4 : tie.Need-returns-4 Inv-loop μ-loop
 returns-4 c =
     let judged = c .before .before .before in
     let read = judged .before .before .before .before in
-    let real = rw (read .u32-at .ensures) at (judged .before .before .before .if1 .left) in
+    let real = named (judged .before .before .before) in
     let l = read .before .before in
     let a = l .before .before .before .before .args in
     let same = met-same (now (a .cache)) (now (a .wanted)) (be 4 (now (a .cache)) (l .loop .field)) (sym (compared (judged .before)) ∙ c .if4 .taken) in
@@ -132,7 +136,7 @@ loop-again : tie.Need-loop-again Inv-loop μ-loop
 loop-again c =
     let judged = c .before .before .before in
     let read = judged .before .before .before .before in
-    let real = rw (read .u32-at .ensures) at (judged .before .before .before .if1 .left) in
+    let real = named (judged .before .before .before) in
     let l = read .before .before in
     let a = l .before .before .before .before .args in
     let right = record-right _ _ _ (kept (c .before) .rules) .named in
@@ -143,7 +147,7 @@ returns-5 : tie.Need-returns-5 Inv-loop μ-loop
 unfolding walk
 returns-5 c =
     let s = now (c .before .before .before .before .before .args .cache) in
-    let none : length s - 10 - c .before .loop .count ≡ 0 = omega arith in
+    let none : length s - 10 - c .before .loop .opened ≡ 0 = omega arith in
     rw none at (c .before .loop .inv .1)
 
 pub walk-spec : {M : Type 1} → statement M
@@ -160,7 +164,7 @@ walk-spec =
     cast-record
     add-if2
     returns-2
-    add-count
+    add-opened
     bears-requires
     judge-requires
     returns-3

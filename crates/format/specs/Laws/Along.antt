@@ -15,6 +15,7 @@ use Rattle.format.specs.Chain.{walk, walkEnds}
 use Rattle.format.specs.Words.{link, linkField, Inside, KeepsAt, KeepsBelow, NoneBelow, Holds, Breaks, itself}
 use Rattle.format.specs.declared.Fault.{Fault}
 use Rattle.format.specs.declared.Ending.the-variants.{Ended, Met, Broken, Endless}
+use Rattle.format.specs.Laws.Faults.{same-number}
 use Rattle.format.specs.Laws.Rules.{record-number}
 use Rattle.format.specs.Laws.Links.{broken-inside, broken-outside}
 use Rattle.format.specs.Laws.Walk.{walk-ended, walk-outside, walk-broken, walk-met, walk-next, reads-link}
@@ -60,19 +61,19 @@ module _ (s name : List ℕ) (k o : ℕ) where
 
         above : Inside s (link s k n) → 8 ≤ x
         above inn =
-            let e = ap (λ (f : Fault). f .number) (broken-inside b inn) in
+            let e = same-number (broken-inside b inn) in
             elim (record-number s k (link s k n)) [ inl z ↦ absurd (omega (arith, b .some)) | inr h ↦ omega arith ]
 
         go : (m : ℕ) → Dec (Inside s (link s k n)) → walk (suc m) s name k (linkField s k n) (o + n) ≡ walkEnds (Broken x p) (o + n + itself x)
         go m (no out) =
             let e = broken-outside b out in
-            let a : x ≡ 7 = sym (ap (λ (f : Fault). f .number) e) in
+            let a : x ≡ 7 = sym (same-number e) in
             let c : p ≡ linkField s k n = sym (ap (λ (f : Fault). f .place) e) in
             rw (a, c, add-zero) (walk-outside s name k m (linkField s k n) (o + n) real (rw reads-link out))
         go m (yes inn) =
             let e = broken-inside b inn in
             let q : recordFault s k (be 4 s (linkField s k n)) .number ≡ 0 → ⊥ =
-            rw reads-link (λ z. omega (arith, ap (λ (f : Fault). f .number) e, b .some)) in
+            rw reads-link (λ z. omega (arith, same-number e, b .some)) in
             rw (ne-eqb x 7 (λ z. omega (arith, above inn)))
             (walk-broken s name k m (linkField s k n) (o + n) real (rw reads-link inn) q ∙ rw (reads-link, e))
 

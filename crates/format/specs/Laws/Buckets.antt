@@ -12,6 +12,7 @@ use Rattle.format.specs.Call.{check, checkBuckets, checked}
 use Rattle.format.specs.Words.{KeepsAt, KeepsBelow, NoneBelow, Holds, Breaks, Sound, HeldBefore, Lengths, sum, itself}
 use Rattle.format.specs.declared.Fault.{Fault}
 use Rattle.format.specs.declared.Ending.the-variants.{Ended, Met, Broken, Endless}
+use Rattle.format.specs.Laws.Faults.{same-number}
 use Rattle.format.specs.Laws.Links.{Repeat, once, never-breaks, keeps-named}
 use Rattle.format.specs.Laws.Apart.{Apart, visits, visits-length, apart-none, apart-length, apart-visits, apart-chain}
 use Rattle.format.specs.Laws.Along.{walk-ends, walk-breaks, walk-lasts}
@@ -40,8 +41,8 @@ check-sound s e = rw (check, e)
 
 pub check-refuses : (s : List ℕ) {f : Fault} → tablesFault s ≡ f → (f .number ≡ 0 → ⊥) → check s ≡ checked (f .number) (f .place) 0 0 0
 unfolding check
-check-refuses s {f} e some = let q : tablesFault s .number ≡ suc (f .number - 1) = omega (arith, ap (λ (x : Fault). x .number) e) in
-    rw (check, q) (rw (e, ← (sym (ap (λ (x : Fault). x .number) e) ∙ q)))
+check-refuses s {f} e some = let q : tablesFault s .number ≡ suc (f .number - 1) = omega (arith, same-number e) in
+    rw (check, q) (rw (e, ← (sym (same-number e) ∙ q)))
 
 -- chains that hold have lengths
 module _ {s : List ℕ} {k : ℕ} (held : HeldBefore s k) where

@@ -2,7 +2,7 @@
 use Prim.Native.Nat.{ℕ, suc, _+_, _-_, _≤_, _<_}
 use mathlib.Core.Path.{_≡_, sym, ap, _∙_}
 use mathlib.Core.Logic.{_↔_, Iff·trans}
-use mathlib.Core.List.{List, []}
+use mathlib.Core.List.{List}
 use mathlib.Core.Bool.{Bool, true, false}
 use native.Mathlib.Nat.{mod-lt}
 use native.Mathlib.Omega.{arith}
@@ -14,8 +14,8 @@ use Rattle.format.specs.Header.{buckets, bucketField, directories}
 use Rattle.format.specs.Record.{nameOf, bucketOf}
 use Rattle.format.specs.Call.{check, checked, lookup}
 use Rattle.format.specs.Words.{NoneBelow, OnChain, Holds, Breaks, Sound, Accepted, Loops, Lengths, sum, itself, CheckDemand, LookupKept, Demand3, CheckAnswers}
-use Rattle.format.specs.declared.Fault.{Fault}
 use Rattle.format.specs.declared.CheckAnswer.{CheckAnswer}
+use Rattle.format.specs.Laws.Faults.{same-number}
 use Rattle.format.specs.Laws.Header.{header-right}
 use Rattle.format.specs.Laws.Rules.{tables-right, tables-number}
 use Rattle.format.specs.Laws.Links.{on-chain, chain-on, one-step, keeps-bucket, never-breaks, broken-number}
@@ -60,7 +60,7 @@ module _ {s : List ℕ} where
   opens (looped l) = omega (arith, opened (loops l))
 
   loop-of : Verdict s → check s .number ≡ 12 → (k : ℕ) × Loops s k
-  loop-of (unsound e) q = absurd (omega (arith, number (check-refuses s e (λ z. omega arith)), tables-number s, ap (λ (f : Fault). f .number) e))
+  loop-of (unsound e) q = absurd (omega (arith, number (check-refuses s e (λ z. omega arith)), tables-number s, same-number e))
   loop-of (accepted acc) q = let (f, h) = lengths acc in absurd (omega (arith, number (accepts acc f h)))
   loop-of (broken l held b) q = let (f, h) = lengths held in absurd (omega (arith, number (breaks f l (held .sound) h b), broken-number b))
   loop-of (looped {k = k} l) q = (k, l)

@@ -1,4 +1,4 @@
--- What the two directory calls answer, by the rule that is broken first, and that the part handed back lies inside.
+-- What the directory calls answer, by the rule that is broken first, and that the part handed back lies inside.
 use Prim.Native.Nat.{ℕ, zero, suc, _+_, _-_, _≤_, _<_}
 use mathlib.Core.Path.{_≡_, refl, ap, _∙_}
 use mathlib.Core.List.{List}
@@ -13,7 +13,7 @@ use Rattle.format.specs.Header.{directories, headerFault, pathField, pat
 use Rattle.format.specs.Call.{directoryFault, directoryPart, directoryPath, partIs}
 use Rattle.format.specs.declared.Fault.{Fault}
 use Rattle.format.specs.Laws.Faults.{orElse-first, orElse-next, orElse-none, given-none, broken-speaks, kept-passes, ifKept-none}
-use Rattle.format.specs.Laws.Strings.{string-front, whole-named}
+use Rattle.format.specs.Laws.Strings.{string-front, whole-string}
 
 module _ (s : List ℕ) (i : ℕ) where
   pub directory-header : (headerFault s .number ≡ 0 → ⊥) → directoryFault s i ≡ headerFault s
@@ -44,7 +44,7 @@ module _ (s : List ℕ) (i : ℕ) where
   path-ends e =
       let kept = orElse-none _ _ (orElse-none _ _ e .1) .1 in
       let right = not-false _ (given-none (not (pathRight s i)) 5 (pathField s i) kept) in
-      whole-named 1023 (pathPart s i) (and-eq-true-iff _ _ .0 right .0) .ended
+      whole-string 1023 (pathPart s i) (and-eq-true-iff _ _ .0 right .0) .ended
 
   pub part-inside : directoryPart s i .start + directoryPart s i .length ≤ length s
   unfolding directoryPart

@@ -1,10 +1,13 @@
 -- Judgements put one after the other: which of them speaks, what follows when none does, and what the number can be.
 use Prim.Native.Nat.{ℕ, zero, suc, _≤_, zero-le}
-use mathlib.Core.Path.{_≡_, refl}
+use mathlib.Core.Path.{_≡_, refl, ap}
 use mathlib.Core.Bool.{Bool, true, false}
 use native.Mathlib.Omega.{arith}
 use Rattle.format.specs.Fault.{fault, given, _orElse_, ifKept}
 use Rattle.format.specs.declared.Fault.{Fault}
+
+pub same-number : {x y : Fault} → x ≡ y → x .number ≡ y .number
+same-number e = ap (λ (f : Fault). f .number) e
 
 pub orElse-first : (x y : Fault) → (x .number ≡ 0 → ⊥) → x orElse y ≡ x
 unfolding _orElse_

@@ -1,4 +1,4 @@
--- The hash of the first bytes of a name, and what one byte more makes of it.
+-- The hash of the first bytes of a name, what one byte more makes of it, and the bucket that it gives.
 use Prim.Native.Nat.{ℕ, zero, suc, _+_, _*_, _%_, _^_, _<_}
 use mathlib.Core.Path.{_≡_, refl, ap}
 use mathlib.Core.List.{List, [], _∷_}
@@ -8,6 +8,8 @@ use native.Mathlib.Omega.{arith}
 use lib.ListN.{length, take, getD}
 use lib.Seq.{take-all}
 use Rattle.format.specs.Text.{string, hashFrom, hash, allowed}
+use Rattle.format.specs.Header.{buckets}
+use Rattle.format.specs.Record.{bucketOf}
 use Rattle.format.specs.Laws.Strings.{allowed-string, allowed-short}
 
 from-one-more : (h : ℕ) (t : List ℕ) (i : ℕ) → i < length t → hashFrom h (take (i + 1) t) ≡ (31 * hashFrom h (take i t) + getD t i 0) % 2 ^ 32
@@ -26,3 +28,7 @@ hash-one-more (b ∷ t) (suc i) l small = rw add-one (rw add-one at (from-one-mo
 -- a name that may be asked for is hashed whole: no zero byte cuts it, and it is not too long
 pub allowed-hash : (name : List ℕ) → allowed name ≡ true → hash (take 255 (string name)) ≡ hash name
 allowed-hash name e = ap hash (rw (allowed-string name e) (take-all 255 name (allowed-short name e)))
+
+-- the bucket of a name from its hash and the count of the buckets
+pub hash-bucket : (s name : List ℕ) {h b : ℕ} → h ≡ hash name → b ≡ buckets s → h % b ≡ bucketOf s name
+hash-bucket s name e q = rw (e, q)

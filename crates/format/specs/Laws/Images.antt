@@ -1,5 +1,5 @@
 -- Rule 11 on the images of a list, one after the other, and their words.
-use Prim.Native.Nat.{ℕ, zero, suc, _+_, _*_, _≤_}
+use Prim.Native.Nat.{ℕ, zero, suc, _+_, _≤_}
 use mathlib.Core.Path.{_≡_, refl}
 use mathlib.Core.List.{List, [], _∷_}
 use mathlib.Core.Bool.{true, false, not}
@@ -9,7 +9,7 @@ use native.Mathlib.Omega.{arith}
 use lib.ListN.{length, drop, set}
 use Rattle.format.specs.Number.{be}
 use Rattle.format.specs.Fault.{fault, noFault}
-use Rattle.format.specs.Record.{imageRight, imagesFault, imageWords}
+use Rattle.format.specs.Record.{imageRight, imagesFault, firstWord, imageWords}
 use Rattle.format.specs.Laws.Faults.{broken-speaks, kept-passes}
 
 module _ (s : List ℕ) (p n : ℕ) where
@@ -35,6 +35,6 @@ two-stored (x ∷ (y ∷ ws)) (suc i) a b h = rw (suc-add, suc-add) (two-stored 
 
 -- the words of one more image before the rest
 pub words-cons : (s : List ℕ) (n p : ℕ) (m : ℕ) → n ≡ m + 1
-    → imageWords n s p ≡ (be 2 s p * 65536 + be 2 s (p + 2)) ∷ be 4 s (p + 4) ∷ imageWords m s (p + 8)
+    → imageWords n s p ≡ firstWord s p ∷ be 4 s (p + 4) ∷ imageWords m s (p + 8)
 unfolding imageWords
 words-cons s n p m e = rw (e, add-one m)

@@ -3,7 +3,6 @@ use Prim.Native.Nat.{ℕ, zero, suc, _+_, _*_, _≤_, _<_}
 use mathlib.Core.Path.{_≡_, refl, sym, ap, _∙_}
 use mathlib.Core.Logic.{inl, inr}
 use mathlib.Core.List.{List, []}
-use mathlib.Core.Bool.{and-eq-true-iff}
 use native.Mathlib.Decide.{ℕ-discrete, decLe}
 use native.Mathlib.Nat.{le-antisymm}
 use native.Mathlib.Omega.{arith}
@@ -12,13 +11,10 @@ use lib.ListN.{length}
 use Rattle.format.specs.Number.{be}
 use Rattle.format.specs.Fault.{fault, noFault}
 use Rattle.format.specs.Header.{endValue}
-use Rattle.format.specs.Record.{recordFault, nameOf, bucketOf, namePart, imagesAt, images}
+use Rattle.format.specs.Record.{recordFault, nameOf, bucketOf, imagesAt, images}
 use Rattle.format.specs.Words.{link, linkField, Inside, Keeps, KeepsAt, KeepsBelow, Holds, Breaks, OnChain}
-use Rattle.format.specs.declared.Fault.{Fault}
 use Rattle.format.specs.Laws.Below.{le-unless, lt-unless}
-use Rattle.format.specs.Laws.Reads.{list-ends}
-use Rattle.format.specs.Laws.Faults.{orElse-next, orElse-first}
-use Rattle.format.specs.Laws.Strings.{whole-named}
+use Rattle.format.specs.Laws.Faults.{same-number, orElse-next, orElse-first}
 use Rattle.format.specs.Laws.Rules.{record-right, record-number}
 
 -- two steps below n name one record
@@ -35,11 +31,11 @@ keeps-bucket {s} {k} {r} h = record-right s k r (h .rules) .home
 
 -- its images lie inside
 pub keeps-listed : {s : List ℕ} {k r : ℕ} → Keeps s k r → imagesAt s r + 4 + 8 * images s r ≤ length s
-keeps-listed {s} {k} {r} h = list-ends _ _ 8 (and-eq-true-iff _ _ .0 (record-right s k r (h .rules) .listed) .0)
+keeps-listed {s} {k} {r} h = record-right s k r (h .rules) .listed
 
 -- its name is not empty
 pub keeps-named : {s : List ℕ} {k r : ℕ} → Keeps s k r → nameOf s r ≡ [] → ⊥
-keeps-named {s} {k} {r} h e = omega (arith, whole-named 255 (namePart s r) (record-right s k r (h .rules) .named) .some, ap length e)
+keeps-named {s} {k} {r} h = record-right s k r (h .rules) .has-name
 
 module _ {s : List ℕ} {k n x p : ℕ} (b : Breaks s k n x p) where
   -- a record that lies inside and breaks a rule breaks one of 8 to 11
@@ -53,12 +49,12 @@ module _ {s : List ℕ} {k n x p : ℕ} (b : Breaks s k n x p) where
 
   -- a record that keeps the rules breaks none
   pub broken-keeps : Keeps s k (link s k n) → ⊥
-  broken-keeps h = omega (arith, h .rules, ap (λ (f : Fault). f .number) (broken-inside (h .inside)), b .some)
+  broken-keeps h = omega (arith, h .rules, same-number (broken-inside (h .inside)), b .some)
 
   pub broken-number : x ≤ 11
   broken-number = elim (decLe (link s k n + 12) (length s)) [
-    | no out ↦ omega (arith, ap (λ (f : Fault). f .number) (broken-outside out))
-    | yes h ↦ let e = ap (λ (f : Fault). f .number) (broken-inside h) in elim (record-number s k (link s k n)) [ inl z ↦ omega arith | inr g ↦ omega arith ]
+    | no out ↦ omega (arith, same-number (broken-outside out))
+    | yes h ↦ let e = same-number (broken-inside h) in elim (record-number s k (link s k n)) [ inl z ↦ omega arith | inr g ↦ omega arith ]
   ]
 
 module _ {s : List ℕ} {k n : ℕ} (c : Repeat s k n) where

@@ -16,11 +16,12 @@ use Rattle.format.specs.Header.{headerFault, bucketField}
 use Rattle.format.specs.Record.{bucketOf, nameOf, imagesAt, images}
 use Rattle.format.specs.Chain.{walkEnds, walkBucket}
 use Rattle.format.specs.Call.{queryFault, lookup, lookupEnds, metAnswer, lookedUp, answerWords}
-use Rattle.format.specs.Words.{link, KeepsAt, KeepsBelow, NoneBelow, Holds, Breaks, Turns, itself, LookupAnswers}
+use Rattle.format.specs.Words.{link, KeepsAt, KeepsBelow, NoneBelow, Holds, Breaks, Turns, itself, WalkAnswers, LookupAnswers}
 use Rattle.format.specs.declared.Fault.{Fault}
 use Rattle.format.specs.declared.Ending.{Ending}
 use Rattle.format.specs.declared.LookupAnswer.{LookupAnswer}
-use Rattle.format.specs.Laws.Faults.{broken-speaks, kept-passes}
+use Rattle.format.specs.Laws.Faults.{same-number, orElse-none, broken-speaks, kept-passes}
+use Rattle.format.specs.Laws.Header.{header-right}
 use Rattle.format.specs.Laws.Links.{Repeat, earlier, once, goes-on, never-breaks, broken-keeps, broken-number, holds-le, before-end}
 use Rattle.format.specs.Laws.Apart.{apart-none, few-steps, repeats}
 use Rattle.format.specs.Laws.Along.{walk-ends, walk-meets, walk-breaks, walk-lasts}
@@ -31,8 +32,8 @@ module _ (s name : List ℕ) (room : ℕ) where
   pub lookup-refuses : {f : Fault} → queryFault s name ≡ f → (f .number ≡ 0 → ⊥) → lookup s name room ≡ lookedUp (f .number) (f .place) 0 0
   unfolding lookup
   lookup-refuses {f} e some =
-      let q : queryFault s name .number ≡ suc (f .number - 1) = omega (arith, ap (λ (x : Fault). x .number) e) in
-      rw (lookup, q) (rw (e, ← (sym (ap (λ (x : Fault). x .number) e) ∙ q)))
+      let q : queryFault s name .number ≡ suc (f .number - 1) = omega (arith, same-number e) in
+      rw (lookup, q) (rw (e, ← (sym (same-number e) ∙ q)))
 
   pub lookup-ends : {e : Ending} {o : ℕ} → queryFault s name .number ≡ 0 → walkBucket s name (bucketOf s name) 0 ≡ walkEnds e o
       → lookup s name room ≡ lookupEnds s (bucketOf s name) room e o
@@ -56,6 +57,11 @@ module _ (s name : List ℕ) where
   -- an allowed name under a sound header is looked for
   pub query-right : allowed name ≡ true → headerFault s .number ≡ 0 → queryFault s name .number ≡ 0
   query-right a e = rw (query-allowed (ap not a)) e
+
+  -- a name that is looked for stands in a buffer with a header
+  query-long : queryFault s name .number ≡ 0 → 12 ≤ length s
+  unfolding queryFault
+  query-long e = header-right s (orElse-none _ _ e .1) .header-inside
 
 -- the two answers to a met record
 module _ (s : List ℕ) (room r o : ℕ) where
@@ -126,8 +132,8 @@ module _ (s name : List ℕ) (room : ℕ) (asks : queryFault s name .number ≡ 
       let c = repeats long (apart-none s bucket) keeps in
       (turns (goes-on c keeps), λ n same. let (i, l, q) = earlier c n in none i (omega (arith, c .below)) (sym (ap (nameOf s) q) ∙ same))
 
-  pub lookup-answers : LookupAnswers s name room bucket
-  lookup-answers = record {
+  walk-answers : WalkAnswers s name room bucket
+  walk-answers = record {
     absent = absent;
     found = found;
     refuses-record = refuses-record;
@@ -147,3 +153,9 @@ module _ (s name : List ℕ) (room : ℕ) (asks : queryFault s name .number ≡ 
         rw (found m keeps none here same) (met (InChain s name bucket n) _ _ (there d same _ refl (λ e. omega arith)) (there d same _ refl (λ e. omega arith)))
     in-chain (breaks {n = m} l b none) = absurd (broken-keeps b (h .keeps m (before-end h (λ i g. b .keeps i g .0) (b .real)) .1))
     in-chain (lasts keeps none) = absurd (keeps n (omega arith) .0 (h .ends))
+
+pub lookup-answers : (s name : List ℕ) (room : ℕ) → LookupAnswers s name room
+lookup-answers s name room = record {
+  refuses-query = λ x p e. lookup-refuses s name room e (λ z. omega arith);
+  walks = λ asks. walk-answers s name room asks (query-long s name asks);
+}

@@ -1,24 +1,28 @@
--- The numbers of the rules on paths and records, and what a record that keeps the rules tells.
-use Prim.Native.Nat.{ℕ, zero, suc, _+_, _≤_}
-use mathlib.Core.Path.{_≡_, refl}
+-- The numbers of the rules on paths and records, which of the rules 1 to 6 speaks, and what a record that keeps the rules tells.
+use Prim.Native.Nat.{ℕ, zero, suc, _+_, _*_, _≤_}
+use mathlib.Core.Path.{_≡_, refl, ap}
 use mathlib.Core.Logic.{_⊎_, inl, inr}
-use mathlib.Core.List.{List}
-use mathlib.Core.Bool.{Bool, true, not}
+use mathlib.Core.List.{List, []}
+use mathlib.Core.Bool.{Bool, true, not, and-eq-true-iff}
 use native.Mathlib.Omega.{arith}
 use borrow.Author.Tests.{eqb-true, not-false}
+use lib.ListN.{length}
 use lib.Dec.{lit≤}
 use Rattle.format.specs.Fault.{given, _orElse_}
 use Rattle.format.specs.Header.{directories, headerFault, pathRight, pathFault, pathsFault, tablesFault}
-use Rattle.format.specs.Record.{nameOf, bucketOf, nameFault, listFault, recordFault, imagesFault, nameRight, bucketRight, imagesRight, imageRight}
+use Rattle.format.specs.Record.{namePart, nameOf, bucketOf, imagesAt, images, nameFault, listFault, recordFault, imagesFault, nameRight, bucketRight, listRight, imageRight}
 use Rattle.format.specs.declared.Fault.{Fault}
 use Rattle.format.specs.Laws.Faults.{given-none, given-most, given-all, orElse-first, orElse-next, orElse-none, orElse-most, orElse-all}
 use Rattle.format.specs.Laws.Header.{header-number}
+use Rattle.format.specs.Laws.Reads.{list-ends}
+use Rattle.format.specs.Laws.Strings.{whole-string}
 
--- what rules 8 to 10 ask of a record, kept
+-- what a record tells that keeps rules 8 to 10: its name is whole and so not empty, stands in its own bucket, and its images lie inside
 pub record RecordRight (s : List ℕ) (k r : ℕ) : Type 0 where
   pub named : nameRight s r ≡ true
+  pub has-name : nameOf s r ≡ [] → ⊥
   pub home : bucketOf s (nameOf s r) ≡ k
-  pub listed : imagesRight s r ≡ true
+  pub listed : imagesAt s r + 4 + 8 * images s r ≤ length s
 
 -- the numbers of rules 8 to 11
 abbrev pub OfRecord : ℕ → Type 0
@@ -61,15 +65,17 @@ module _ (s : List ℕ) where
     record-number =
         orElse-all OfRecord _ _
         (rule (not (nameRight s r)) _ _ _ (inr (lit≤ tt, lit≤ tt)) (given-all OfRecord (not (bucketRight s k r)) _ _ (inl refl) (inr (lit≤ tt, lit≤ tt))))
-        (rule (not (imagesRight s r)) _ _ _ (inr (lit≤ tt, lit≤ tt)) (images-number _ _))
+        (rule (not (listRight s (imagesAt s r))) _ _ _ (inr (lit≤ tt, lit≤ tt)) (images-number _ _))
 
     pub record-right : recordFault s k r .number ≡ 0 → RecordRight s k r
     unfolding recordFault nameFault listFault
     record-right e =
         let name = orElse-none _ _ (orElse-none _ _ e .0) in
         let list = orElse-none _ _ (orElse-none _ _ e .1) in
+        let whole = not-false _ (given-none _ _ _ (name .0)) in
         record {
-          named = not-false _ (given-none _ _ _ (name .0));
+          named = whole;
+          has-name = λ q. omega (arith, whole-string 255 (namePart s r) whole .some, ap length q);
           home = eqb-true _ _ (not-false _ (given-none _ _ _ (name .1)));
-          listed = not-false _ (given-none _ _ _ (list .0));
+          listed = list-ends s (imagesAt s r) 8 (and-eq-true-iff _ _ .0 (not-false _ (given-none _ _ _ (list .0))) .0);
         }

@@ -33,6 +33,24 @@ string-goes-on (zero ∷ t) zero nz = absurd (nz refl)
 string-goes-on (suc b ∷ t) zero nz = refl
 string-goes-on (b ∷ t) (suc i) nz = rw add-one (rw add-one at (string-goes-on t i nz))
 
+-- i bytes of the string are passed: these and those of the string of the rest are together as many as the whole string's
+abbrev pub Passed : List ℕ → ℕ → Type 0
+Passed t i = i + length (string (drop i t)) ≡ length (string t)
+
+module _ (t : List ℕ) (i : ℕ) (passed : Passed t i) where
+  pub passed-stops : getD t i 0 ≡ 0 → length (string t) ≡ i
+  passed-stops e = omega (arith, ap length (string-stops t i e))
+
+  pub passed-ends : length t ≤ i → length (string t) ≡ i
+  passed-ends h = omega (arith, ap length (string-ends t i h))
+
+  module _ (nz : getD t i 0 ≡ 0 → ⊥) where
+    pub passed-next : Passed t (i + 1)
+    passed-next = omega (arith, ap length (string-goes-on t i nz))
+
+    pub passed-below : i < length (string t)
+    passed-below = omega (arith, ap length (string-goes-on t i nz))
+
 pub string-fits : (t : List ℕ) → length (string t) ≤ length t
 unfolding string
 string-fits [] = zero-le
@@ -53,7 +71,7 @@ pub string-filled : (limit : ℕ) (t : List ℕ) → limit ≤ length (string t)
 string-filled limit t h = ap (take limit) (sym (string-front t)) ∙ take-take limit (length (string t)) t h
 
 -- what a whole string is: it has bytes, no more than the limit, and a zero byte stands after them
-pub record Named (limit : ℕ) (t : List ℕ) : Type 0 where
+pub record WholeString (limit : ℕ) (t : List ℕ) : Type 0 where
   pub some : 0 < length (string t)
   pub within : length (string t) ≤ limit
   pub ended : length (string t) < length t
@@ -63,7 +81,7 @@ pub data Judged (limit : ℕ) (t : List ℕ) : Text → Type 0 where
   long : limit < length (string t) → Judged limit t Long
   cut : length (string t) ≤ limit → length t ≤ length (string t) → Judged limit t Cut
   empty : 0 < length t → length (string t) ≡ 0 → Judged limit t Empty
-  whole : {n : ℕ} → n ≡ length (string t) → Named limit t → Judged limit t (Whole n)
+  whole : {n : ℕ} → n ≡ length (string t) → WholeString limit t → Judged limit t (Whole n)
 
 -- what holds of the string gives the answer
 pub judgement : (limit : ℕ) (t : List ℕ) {r : Text} → Judged limit t r → r ≡ text limit t
@@ -100,11 +118,11 @@ pub whole-is-whole : (limit : ℕ) (t : List ℕ) (n : ℕ) → text limit t ≡
 unfolding isWhole
 whole-is-whole limit t n e = rw e
 
-pub whole-named : (limit : ℕ) (t : List ℕ) → isWhole (text limit t) ≡ true → Named limit t
+pub whole-string : (limit : ℕ) (t : List ℕ) → isWhole (text limit t) ≡ true → WholeString limit t
 unfolding isWhole
-whole-named limit t e = go (judged limit t) e
+whole-string limit t e = go (judged limit t) e
   where
-    go : {r : Text} → Judged limit t r → isWhole r ≡ true → Named limit t
+    go : {r : Text} → Judged limit t r → isWhole r ≡ true → WholeString limit t
     go (long h) q = absurd (false≢true q)
     go (cut h g) q = absurd (false≢true q)
     go (empty h g) q = absurd (false≢true q)

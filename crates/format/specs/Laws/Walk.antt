@@ -1,4 +1,4 @@
--- The turns of a walk, one law for each way a turn can go, and a walk along records that keep the rules and bear other names.
+-- The turns of a walk, one law for each way a turn can go, and what stands in the field of a step.
 use Prim.Native.Nat.{ℕ, zero, suc, _+_, _-_}
 use mathlib.Core.Path.{_≡_, refl}
 use mathlib.Core.List.{List}

@@ -1,15 +1,15 @@
 -- `icon_cache::check` meets its contract: a broken rule of the header, then one of a path, is the first of the rules 1 to 6 that is broken
 -- (`tables-header`, `tables-paths`), and without one the buckets decide (`check-sound`).
 use Prim.Native.Nat.{ℕ}
-use mathlib.Core.Path.{_≡_, ap, sym, _∙_}
+use mathlib.Core.Path.{_≡_, sym, _∙_}
 use mathlib.Core.List.{List}
 use borrow.Author.Needs.{needs}
 use denote.Ref.{now}
 use Rattle.format.specs.Header.{headerFault}
 use Rattle.format.specs.Call.{check}
 use Rattle.format.specs.Words.{CheckDemand}
-use Rattle.format.specs.declared.Fault.{Fault}
 use Rattle.format.specs.declared.CheckAnswer.{CheckAnswer}
+use Rattle.format.specs.Laws.Faults.{same-number}
 use Rattle.format.specs.Laws.Rules.{tables-header, tables-paths}
 use Rattle.format.specs.Laws.Buckets.{check-sound, check-refuses}
 use Rattle.format.specs.Laws.Demand.{check-demand}
@@ -61,7 +61,7 @@ returns-3 : tie.Need-returns-3
 returns-3 c =
     let judged = c .before .before .before in
     let kept = rw (judged .paths .ensures) at (c .before .if2 .left) in
-    let sound = ap (λ (f : Fault). f .number) (tables-paths _ (header-kept (judged .before .before))) ∙ kept in
+    let sound = same-number (tables-paths _ (header-kept (judged .before .before))) ∙ kept in
     meets _ (c .check-buckets .ensures ∙ sym (check-sound _ sound))
 
 pub check-spec : {M : Type 1} → statement M

@@ -16,11 +16,11 @@ use Rattle.format.specs.Record.{bucketOf}
 use Rattle.format.specs.Chain.{walkEnds, walkBucket}
 use Rattle.format.specs.Call.{queryFault, lookupEnds, lookup, lookedUp, answerWords, lookupWords}
 use Rattle.format.specs.Words.{LookupKept}
-use Rattle.format.specs.declared.Fault.{Fault}
 use Rattle.format.specs.declared.Ending.{Ending}
 use Rattle.format.specs.declared.LookupAnswer.{LookupAnswer}
+use Rattle.format.specs.Laws.Faults.{same-number}
 use Rattle.format.specs.Laws.Strings.{allowed-short}
-use Rattle.format.specs.Laws.Hashes.{allowed-hash}
+use Rattle.format.specs.Laws.Hashes.{allowed-hash, hash-bucket}
 use Rattle.format.specs.Laws.Header.{header-right}
 use Rattle.format.specs.Laws.Links.{keeps-listed}
 use Rattle.format.specs.Laws.Course.{walk-tells}
@@ -42,7 +42,7 @@ may-be : (c : tie.Else1) → allowed (now (start c .args .name)) ≡ true
 may-be c = sym (c .before .before .asked .ensures .0) ∙ not-false _ (c .if1 .left)
 
 sound : (c : tie.Else2) → headerFault (now (start (c .before .before .before) .args .cache)) .number ≡ 0
-sound c = ap (λ (f : Fault). f .number) (sym (c .before .before .header .ensures)) ∙ c .if2 .left
+sound c = same-number (sym (c .before .before .header .ensures)) ∙ c .if2 .left
 
 asks : (c : tie.Else2) → let a = start (c .before .before .before) .args in queryFault (now (a .cache)) (now (a .name)) .number ≡ 0
 asks c = query-right _ _ (may-be (c .before .before .before)) (sound c)
@@ -54,15 +54,13 @@ counted : (c : tie.After-read) → c .read .result .buckets ≡ buckets (now (st
 counted c = ap (λ (t : Tables). t .buckets) (c .read .ensures)
 
 -- the bucket walked is the name's
-bucket-is : (c : tie.After-struct-known4)
-    → let a = start-of-walk c .args in
-    c .before .before .before .before .before .before .before .before .asked .result .hash % c .before .before .read .result .buckets
-    ≡ bucketOf (now (a .cache)) (now (a .name))
+abbrev bucket : tie.After-struct-known4 → ℕ
+bucket c = c .before .before .before .before .before .before .before .before .asked .result .hash % c .before .before .read .result .buckets
+
+bucket-is : (c : tie.After-struct-known4) → let a = start-of-walk c .args in bucket c ≡ bucketOf (now (a .cache)) (now (a .name))
 bucket-is c =
     let may = c .before .before .before .before .before .before in
-    let hashed = may .before .before .asked in
-    ap (λ (b : ℕ). hashed .result .hash % b) (counted (c .before .before))
-    ∙ ap (λ (h : ℕ). h % buckets (now (start may .args .cache))) (hashed .ensures .1 ∙ allowed-hash _ (may-be may))
+    hash-bucket _ _ (may .before .before .asked .ensures .1 ∙ allowed-hash _ (may-be may)) (counted (c .before .before))
 
 bucket-below : (c : tie.After-read)
     → let a = start (c .before .before .before .before) .args in bucketOf (now (a .cache)) (now (a .name)) < buckets (now (a .cache))
@@ -70,12 +68,10 @@ bucket-below c = mod-lt _ (header-right _ (right c .header) .buckets-some)
 
 field-is : (c : tie.After-struct-known4)
     → let a = start-of-walk c .args in
-    let t = c .before .before .read .result in
-    bucketFieldOf t (c .before .before .before .before .before .before .before .before .asked .result .hash % t .buckets)
-    ≡ bucketField (now (a .cache)) (bucketOf (now (a .cache)) (now (a .name)))
+    bucketFieldOf (c .before .before .read .result) (bucket c) ≡ bucketField (now (a .cache)) (bucketOf (now (a .cache)) (now (a .name)))
 field-is c =
-    let k = c .before .before .before .before .before .before .before .before .asked .result .hash % c .before .before .read .result .buckets in
-    ap (λ (t : Tables). bucketFieldOf t k) (c .before .before .read .ensures) ∙ ap (bucketField (now (start-of-walk c .args .cache))) (bucket-is c)
+    ap (λ (t : Tables). bucketFieldOf t (bucket c)) (c .before .before .read .ensures)
+    ∙ ap (bucketField (now (start-of-walk c .args .cache))) (bucket-is c)
 
 -- how the walk of that bucket's chain ended
 walked : (c : tie.After-walk) {e : Ending} → c .walk .result .ending ≡ e

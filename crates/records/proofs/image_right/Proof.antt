@@ -1,16 +1,44 @@
--- `records::image_right` meets its contract: the first test says whether the index is right (the laws `within` and `beyond`), and where it is the
+-- `records::image_right` meets its contract: the first test says whether the index is right (`within` and `beyond` below), and where it is the
 -- flags decide, which are the rest of the first word.
-use Prim.Native.Nat.{_+_, _%_, _^_}
-use mathlib.Core.Path.{_≡_, ap, _∙_, sym}
+use Prim.Native.Nat.{ℕ, _+_, _*_, _%_, _^_, _≤_, _<_}
+use mathlib.Core.Path.{_≡_, refl, ap, _∙_, sym}
+use mathlib.Core.Bool.{Bool, true, false}
 use native.Mathlib.Omega.{arith}
 use borrow.Author.Needs.{needs}
+use borrow.Author.Tests.{eq-eqb, ne-eqb, lt-ltb, le-ltb}
+use lib.Dec.{eqb}
 use denote.Ref.{now}
 use Rattle.format.specs.Number.{be}
 use Rattle.format.specs.Header.{directories}
+use Rattle.format.specs.Record.{indexRight}
 use Rattle.records.specs.declared.RightWords.{RightWords}
-use Rattle.records.specs.RightWords.{Placed, within, beyond}
+use Rattle.records.specs.RightWords.{rightWords}
 use Rattle.records.proofs.image_right.Statement.{statement}
 use Rattle.records.proofs.image_right.Tie as tie
+
+-- the word of index i and flags f stands r words after the lowest right one, counted modulo 2^32
+record Placed (n i f r : ℕ) : Type 0 where
+  few : n < 65536
+  flags-fit : f < 65536
+  word-fits : i * 65536 + f < 2 ^ 32
+  fits : r < 2 ^ 32
+  after : (r + rightWords n .lowest) % 2 ^ 32 ≡ i * 65536 + f
+
+-- such a word is right just where r is below the span
+module _ (n i f r : ℕ) (p : Placed n i f r) where
+  within : r < rightWords n .span → indexRight n i ≡ true
+  within h = go (eqb n 0) refl
+    where
+      go : (none : Bool) → eqb n 0 ≡ none → indexRight n i ≡ true
+      go true e = let after = rw e at (p .after) in let below = rw e at h in rw e (eq-eqb i 0xFFFF (omega (arith, p)))
+      go false e = let after = rw e at (p .after) in let below = rw e at h in rw e (lt-ltb i n (omega (arith, p)))
+
+  beyond : rightWords n .span ≤ r → indexRight n i ≡ false
+  beyond h = go (eqb n 0) refl
+    where
+      go : (none : Bool) → eqb n 0 ≡ none → indexRight n i ≡ false
+      go true e = let after = rw e at (p .after) in let above = rw e at h in rw e (ne-eqb i 0xFFFF (λ q. omega (arith, p)))
+      go false e = let after = rw e at (p .after) in let above = rw e at h in rw e (le-ltb i n (omega (arith, p)))
 
 placed : (c : tie.After-wrapping-sub-u32)
     → let a = c .before .before .before .args in
@@ -23,7 +51,7 @@ placed c =
       flags-fit = word .ensures .1;
       word-fits = omega (arith, word .ensures .0, word .ok);
       fits = c .wrapping-sub-u32 .ok;
-      after = ap (λ (w : RightWords). (c .wrapping-sub-u32 .result + w .first) % 2 ^ 32) (sym (start .pre .0 .1)) ∙ c .wrapping-sub-u32 .ensures ∙ word .ensures .0;
+      after = ap (λ (w : RightWords). (c .wrapping-sub-u32 .result + w .lowest) % 2 ^ 32) (sym (start .pre .0 .1)) ∙ c .wrapping-sub-u32 .ensures ∙ word .ensures .0;
     }
 
 first-word-requires : tie.Need-first-word-requires

@@ -1,5 +1,5 @@
--- `records::images` meets its contract. The loop's invariant: the rest equals the whole, what is judged of the images left is what was
--- asked of all of them. Rests on the laws `images-end`, `images-stop` and `images-go-on`.
+-- `records::images` meets its contract. The loop's invariant: the rest equals the whole, what is judged of the images left is what is
+-- judged of all of them. Rests on the laws `images-end`, `images-stop` and `images-go-on`.
 use Prim.Native.Nat.{_+_, _-_, _*_, _≤_}
 use mathlib.Core.Path.{_≡_, refl, sym, ap, _∙_}
 use native.Mathlib.Omega.{arith}

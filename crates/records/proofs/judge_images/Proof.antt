@@ -9,7 +9,7 @@ use borrow.Author.Tests.{not-true, not-false}
 use lib.ListN.{length}
 use denote.Ref.{now}
 use Rattle.format.specs.Number.{be}
-use Rattle.format.specs.Record.{imagesRight}
+use Rattle.format.specs.Record.{imagesAt, listRight}
 use Rattle.format.specs.Laws.Header.{header-right}
 use Rattle.format.specs.Laws.Reads.{list-ends}
 use Rattle.format.specs.Laws.Records.{list-broken, list-kept}
@@ -18,7 +18,7 @@ use Rattle.records.proofs.judge_images.Statement.{statement}
 use Rattle.records.proofs.judge_images.Tie as tie
 
 listed : (c : tie.After-list-right)
-    → let a = c .before .before .before .args in c .list-right .result ≡ imagesRight (now (a .cache)) (a .offset)
+    → let a = c .before .before .before .args in c .list-right .result ≡ listRight (now (a .cache)) (imagesAt (now (a .cache)) (a .offset))
 listed c = c .list-right .ensures ∙ rw (c .before .u32-at .ensures)
 
 ends-inside : (c : tie.Else1)
@@ -43,7 +43,7 @@ add-t11 : tie.Need-add-t11
 add-t11 c = search needs
 
 returns : tie.Need-returns
-returns c = sym (list-broken _ 0 _ (sym (listed (c .before)) ∙ not-true _ (c .if1 .taken)))
+returns c = sym (list-broken _ _ (sym (listed (c .before)) ∙ not-true _ (c .if1 .taken)))
 
 u32-at-requires-2 : tie.Need-u32-at-requires-2
 u32-at-requires-2 c κs = omega (arith, ends-inside c)
@@ -67,7 +67,7 @@ returns-2 : tie.Need-returns-2
 returns-2 c =
     let right = c .before .before in
     c .images .ensures ∙ rw (c .before .u32-at2 .ensures, right .before .before .u32-at .ensures)
-    (sym (list-kept _ 0 _ (sym (listed (right .before)) ∙ not-false _ (right .if1 .left))))
+    (sym (list-kept _ _ (sym (listed (right .before)) ∙ not-false _ (right .if1 .left))))
 
 pub judge-images-spec : {M : Type 1} → statement M
 judge-images-spec =

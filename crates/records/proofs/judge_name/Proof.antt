@@ -1,5 +1,5 @@
 -- `records::judge_name` meets its contract: what each test asks is what a rule of the definition asks, and the laws `name-unread`,
--- `name-foreign` and `name-home` say which rule is the first to be broken.
+-- `name-foreign` and `name-home` say which rule is the first to be broken. A name that is known keeps both by the `requires`.
 use Prim.Native.Nat.{ℕ, _%_}
 use mathlib.Core.Path.{_≡_, ap, sym, _∙_}
 use mathlib.Core.List.{List}
@@ -11,7 +11,8 @@ use denote.Ref.{now}
 use Rattle.format.specs.Text.{string, text, isWhole, hash}
 use Rattle.format.specs.Header.{buckets}
 use Rattle.format.specs.Record.{nameOf, bucketOf, nameRight}
-use Rattle.format.specs.Laws.Strings.{whole-named}
+use Rattle.format.specs.Laws.Strings.{whole-string}
+use Rattle.format.specs.Laws.Hashes.{hash-bucket}
 use Rattle.format.specs.Laws.Header.{header-right}
 use Rattle.format.specs.Laws.Records.{name-unread, name-foreign, name-home}
 use Rattle.text.proofs.Tags.{tag-whole, tag-not-whole}
@@ -40,7 +41,7 @@ hashed : (c : tie.After-read-name)
 hashed c right =
     c .read-name .ensures .1
     ∙ ap (λ (t : List ℕ). hash (take 255 (string t))) (c .before .name-part .ensures)
-    ∙ ap hash (take-all 255 _ (whole-named 255 _ right .within))
+    ∙ ap hash (take-all 255 _ (whole-string 255 _ right .within))
 
 whole : (c : tie.After-struct-known2) → nameRight (now (start-of-all c .args .cache)) (start-of-all c .args .offset) ≡ true
 whole c = sym (named (c .before .before .before .before)) ∙ tag-whole _ (c .before .before .before .match .keys1)
@@ -48,9 +49,7 @@ whole c = sym (named (c .before .before .before .before)) ∙ tag-whole _ (c .be
 placed : (c : tie.After-struct-known2)
     → let a = start-of-all c .args in
     c .before .before .before .before .read-name .result .hash % a .t .buckets ≡ bucketOf (now (a .cache)) (nameOf (now (a .cache)) (a .offset))
-placed c =
-    let read = c .before .before .before .before in
-    ap (λ (b : ℕ). read .read-name .result .hash % b) (counted (start-of-all c)) ∙ ap (λ (h : ℕ). h % buckets (now (start-of-all c .args .cache))) (hashed read (whole c))
+placed c = let read = c .before .before .before .before in hash-bucket _ _ (hashed read (whole c)) (counted (start-of-all c))
 
 returns : tie.Need-returns
 returns c = sym (c .before .before .pre .1 .1 (c .if1 .taken))

@@ -8,14 +8,14 @@ use native.Mathlib.Omega.{arith}
 use lib.ListN.{length, drop, set, length-set}
 use denote.Ref.{now}
 use Rattle.format.specs.Number.{be}
-use Rattle.format.specs.Record.{imageWords}
+use Rattle.format.specs.Record.{firstWord, imageWords}
 use Rattle.format.specs.Laws.Images.{two-stored, words-cons}
 use Rattle.records.proofs.write_images.Statement.{statement}
 use Rattle.records.proofs.write_images.Tie as tie
 
 -- one more image, j, before those from i on
 one-image : (s words rest : List ℕ) (p m i j a b : ℕ) → i ≡ j + 1 → i ≤ m → 2 * i ≤ length words
-    → a ≡ be 2 s (p + 8 * j) * 65536 + be 2 s (p + 8 * j + 2) → b ≡ be 4 s (p + 8 * j + 4)
+    → a ≡ firstWord s (p + 8 * j) → b ≡ be 4 s (p + 8 * j + 4)
     → drop (2 * i) words ≡ imageWords (m - i) s (p + 8 * i) ++ rest
     → drop (2 * j) (set (set words (2 * j) a) (2 * j + 1) b) ≡ imageWords (m - j) s (p + 8 * j) ++ rest
 one-image s words rest p m i j a b e l g ea eb h =

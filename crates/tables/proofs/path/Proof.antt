@@ -1,20 +1,31 @@
 -- `tables::path` meets its contract. The field, the part that starts with the path and the answer on the string are those of the
 -- definitions, and each `return` is one of the laws `path-not-whole`, `path-absolute` and `path-kept`. A whole string has a first byte.
+use Prim.Native.Nat.{ℕ, suc}
 use mathlib.Core.Path.{_≡_, _∙_, sym, ap}
+use mathlib.Core.List.{List}
 use native.Mathlib.Omega.{arith}
 use borrow.Author.Needs.{needs}
 use lib.ListN.{length, drop}
 use denote.Ref.{now}
 use Rattle.format.specs.Number.{be}
 use Rattle.format.specs.Text.{text, isWhole}
-use Rattle.format.specs.Header.{pathField, pathPart}
+use Rattle.format.specs.Fault.{fault, noFault}
+use Rattle.format.specs.Header.{pathField, pathPart, pathOf, pathFault}
 use Rattle.format.specs.Laws.Header.{HeaderRight, header-right}
 use Rattle.format.specs.Laws.Paths.{path-not-whole, path-absolute, path-kept}
-use Rattle.format.specs.Laws.Strings.{whole-named, whole-length, whole-is-whole}
+use Rattle.format.specs.Laws.Strings.{whole-string, whole-length, whole-is-whole}
 use Rattle.text.proofs.Tags.{tag-not-whole}
-use Rattle.tables.specs.Tables.{pathFieldOf, judged-broken, judged-kept}
+use Rattle.tables.specs.Tables.{pathFieldOf, pathJudged, pathBroken}
 use Rattle.tables.proofs.path.Statement.{statement}
 use Rattle.tables.proofs.path.Tie as tie
+
+-- a judged path, where a rule is broken and where none is
+judged-broken : (s : List ℕ) (i : ℕ) {x p : ℕ} → pathFault s i ≡ fault (suc x) p → pathJudged s i ≡ pathBroken (suc x) p
+judged-broken s i e = rw e
+
+judged-kept : (s : List ℕ) (i : ℕ) → pathFault s i ≡ noFault
+    → pathJudged s i ≡ record { fault = noFault; start = be 4 s (pathField s i); length = length (pathOf s i) }
+judged-kept s i e = rw e
 
 right : (c : tie.Start) → HeaderRight (now (c .args .cache))
 right c = header-right _ (c .pre .0 .header)
@@ -57,7 +68,7 @@ enum-known-length c = search needs
 shared-slice-read-if1 : tie.Need-shared-slice-read-if1
 shared-slice-read-if1 c =
     let told = sym (c .before .before .before .before .scan .ensures) ∙ c .before .before .length .given .1 in
-    omega (arith, whole-named 1023 _ (whole-is-whole 1023 _ _ told))
+    omega (arith, whole-string 1023 _ (whole-is-whole 1023 _ _ told))
 
 bad-path-requires : tie.Need-bad-path-requires
 bad-path-requires c κs = search needs

@@ -1,15 +1,14 @@
--- `text::read_name` meets its contract. The bytes passed and those of the string of the rest are together as many as the whole string's, so at
--- each `return` its length is known, and the hash so far is that of the bytes passed. Rests on `string-stops`, `string-ends`, `string-goes-on`,
--- `judgement` for the answer, `hash-one-more`, and on what `times31` ensures.
+-- `text::read_name` meets its contract. The bytes of the string are passed one by one (`Passed`), so at each `return` its length is known, and the
+-- hash so far is that of the bytes passed. Rests on `passed-stops`, `passed-ends`, `passed-next` and `passed-below`, `judgement` for the answer, `string-read`, `string-filled` and `hash-one-more` for the hash, and on what `times31` ensures.
 use Prim.Native.Nat.{ℕ, _+_, _-_, _*_, _%_, _^_, _≤_, _<_}
 use mathlib.Core.Path.{_≡_, refl, sym, ap, _∙_}
 use mathlib.Core.List.{List}
 use native.Mathlib.Nat.{mod-add-mod}
 use native.Mathlib.Omega.{arith}
 use borrow.Author.Needs.{needs}
-use lib.ListN.{length, take, drop, getD}
+use lib.ListN.{length, take, getD}
 use Rattle.format.specs.Text.{string, hash}
-use Rattle.format.specs.Laws.Strings.{string-stops, string-ends, string-goes-on, string-read, string-filled, judgement, long, cut, empty, whole}
+use Rattle.format.specs.Laws.Strings.{Passed, passed-stops, passed-ends, passed-next, passed-below, string-read, string-filled, judgement, long, cut, empty, whole}
 use Rattle.format.specs.Laws.Hashes.{hash-one-more}
 use Rattle.text.proofs.read_name.Statement.{statement}
 use Rattle.text.proofs.read_name.Tie as tie
@@ -28,7 +27,7 @@ hash-of-front t e l h = h ∙ rw e (ap hash (sym (string-filled 255 t l)))
 
 abbrev Inv-loop : tie.InvT-loop
 Inv-loop part hash₀ i₀ h i =
-    (i ≤ length part) × (i ≤ 255) × (i + length (string (drop i part)) ≡ length (string part)) × (h ≡ hash (take i part))
+    (i ≤ length part) × (i ≤ 255) × Passed part i × (h ≡ hash (take i part))
 
 abbrev μ-loop : tie.MeasureT-loop
 μ-loop part hash₀ i₀ h i = length part - i
@@ -47,14 +46,14 @@ returns : tie.Need-returns Inv-loop μ-loop
 returns c =
     let l = c .before .before .before .before in
     let t = l .before .before .args .part .now in
-    let e = ap length (string-stops t (l .loop .i) (c .before .if1 .taken)) in
+    let e = passed-stops t (l .loop .i) (l .loop .inv .2) (c .before .if1 .taken) in
     (judgement _ _ (empty (omega arith) (omega arith)), hash-of-all t (l .loop .i) (omega arith) (omega arith) (l .loop .inv .3))
 
 returns-2 : tie.Need-returns-2 Inv-loop μ-loop
 returns-2 c =
     let l = c .before .before .before .before in
     let t = l .before .before .args .part .now in
-    let e = ap length (string-stops t (l .loop .i) (c .before .if1 .taken)) in (
+    let e = passed-stops t (l .loop .i) (l .loop .inv .2) (c .before .if1 .taken) in (
       judgement _ _ (whole (omega arith) (record { some = omega arith; within = omega arith; ended = omega arith })),
       hash-of-all t (l .loop .i) (omega arith) (omega arith) (l .loop .inv .3),
     )
@@ -63,7 +62,7 @@ returns-3 : tie.Need-returns-3 Inv-loop μ-loop
 returns-3 c =
     let l = c .before .before .before .before in
     let t = l .before .before .args .part .now in
-    let e = ap length (string-goes-on t (l .loop .i) (c .before .if1 .left)) in
+    let e = passed-below t (l .loop .i) (l .loop .inv .2) (c .before .if1 .left) in
     (judgement _ _ (long (omega arith)), hash-of-front t (c .if3 .taken) (omega arith) (l .loop .inv .3))
 
 times31-requires : tie.Need-times31-requires Inv-loop μ-loop
@@ -83,11 +82,10 @@ loop-again c =
     let l = c .before .before .before .before .before .before in
     let t = l .before .before .args .part .now in
     let read = c .before .before .before .before in
-    let e = ap length (string-goes-on t (l .loop .i) (c .before .before .before .if1 .left)) in
     let small : getD t (l .loop .i) 0 < 2 ^ 32 = omega (arith, read .shared-slice-known2 .given (l .loop .i)) in (
       omega arith,
       omega arith,
-      omega arith,
+      passed-next t (l .loop .i) (l .loop .inv .2) (c .before .before .before .if1 .left),
       one-byte t (l .loop .i) (omega arith) small (l .loop .inv .3) (c .before .times31 .ensures) (c .wrapping-add-u32 .ensures),
     )
 
@@ -95,7 +93,7 @@ returns-4 : tie.Need-returns-4 Inv-loop μ-loop
 returns-4 c =
     let l = c .before in
     let t = l .before .before .args .part .now in
-    let e = ap length (string-ends t (l .loop .i) (c .loop-test .left)) in
+    let e = passed-ends t (l .loop .i) (l .loop .inv .2) (c .loop-test .left) in
     (judgement _ _ (cut (omega arith) (omega arith)), hash-of-all t (l .loop .i) (omega arith) (omega arith) (l .loop .inv .3))
 
 pub read-name-spec : {M : Type 1} → statement M

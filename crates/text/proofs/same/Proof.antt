@@ -1,8 +1,7 @@
--- `text::same` meets its contract. What is left of both compares as the whole does, and the bytes passed and those of the string of the rest are
--- together as many as the whole string's. Rests on `string-stops`, `string-ends`, `string-goes-on` and `judgement`, and on the facts below: where
--- the comparison ends and how it goes on.
+-- `text::same` meets its contract. What is left of both compares as the whole does, and the bytes of the string are passed one by one (`Passed`).
+-- Rests on `passed-stops`, `passed-ends`, `passed-next` and `judgement`, and on the facts below: where the comparison ends and how it goes on.
 use Prim.Native.Nat.{ℕ, zero, suc, _+_, _-_, _≤_, _<_}
-use mathlib.Core.Path.{_≡_, refl, sym, ap, _∙_}
+use mathlib.Core.Path.{_≡_, refl, sym, _∙_}
 use mathlib.Core.List.{List, [], _∷_}
 use mathlib.Core.Bool.{Bool, false, _&&_, and-false}
 use native.Mathlib.Numerals.{add-one}
@@ -14,7 +13,7 @@ use lib.ListN.{length, drop, getD, drop-of-length-le}
 use lib.Seq.{drop-cons}
 use Rattle.format.specs.declared.Text.{Text}
 use Rattle.format.specs.Text.{string, text, isWhole, sameBytes}
-use Rattle.format.specs.Laws.Strings.{string-stops, string-ends, string-goes-on, Named, Judged, judgement, cut, empty, whole}
+use Rattle.format.specs.Laws.Strings.{string-stops, string-goes-on, Passed, passed-stops, passed-ends, passed-next, WholeString, Judged, judgement, cut, empty, whole}
 use Rattle.text.proofs.same.Statement.{statement}
 use Rattle.text.proofs.same.Tie as tie
 
@@ -48,7 +47,7 @@ module _ (part name : List ℕ) (i : ℕ) (nz : getD part i 0 ≡ 0 → ⊥) (h 
 
 -- the answer, where the string is whole, where it is not, and where the bytes differ
 module _ (part name : List ℕ) where
-  whole-answers : {b : Bool} → Named 255 part → b ≡ sameBytes (string part) name → b ≡ (isWhole (text 255 part) && sameBytes (string part) name)
+  whole-answers : {b : Bool} → WholeString 255 part → b ≡ sameBytes (string part) name → b ≡ (isWhole (text 255 part) && sameBytes (string part) name)
   unfolding isWhole
   whole-answers h e = rw (← (judgement 255 part (whole refl h))) e
 
@@ -62,7 +61,7 @@ abbrev Inv-loop : tie.InvT-loop
 Inv-loop part name i₀ i =
     (i ≤ length part)
     × (i ≤ length name)
-    × (i + length (string (drop i part)) ≡ length (string part))
+    × Passed part i
     × (sameBytes (string (drop i part)) (drop i name) ≡ sameBytes (string part) name)
 
 abbrev μ-loop : tie.MeasureT-loop
@@ -79,7 +78,7 @@ unfolding isWhole
 returns c =
     let l = c .before .before .before .before in
     let a = l .before .args in
-    let e = ap length (string-stops (a .part .now) (l .loop .i) (c .before .if1 .taken)) in
+    let e = passed-stops (a .part .now) (l .loop .i) (l .loop .inv .2) (c .before .if1 .taken) in
     other-answers _ _ (empty (omega arith) (omega arith)) refl
 
 returns-2 : tie.Need-returns-2 Inv-loop μ-loop
@@ -87,7 +86,7 @@ returns-2 c =
     let l = c .before .before .before .before in
     let a = l .before .args in
     let stops = string-stops (a .part .now) (l .loop .i) (c .before .if1 .taken) in
-    let e = ap length stops in
+    let e = passed-stops (a .part .now) (l .loop .i) (l .loop .inv .2) (c .before .if1 .taken) in
     whole-answers _ _ (record { some = omega arith; within = omega arith; ended = omega arith })
     (sym (string-over (a .part .now) (a .name .now) (l .loop .i) stops (omega arith)) ∙ l .loop .inv .3)
 
@@ -120,11 +119,10 @@ loop-again : tie.Need-loop-again Inv-loop μ-loop
 loop-again c =
     let l = c .before .before .before .before .before .before .before in
     let a = l .before .args in
-    let nz = c .before .before .before .before .if1 .left in
-    let e = ap length (string-goes-on (a .part .now) (l .loop .i) nz) in (
+    let nz = c .before .before .before .before .if1 .left in (
       omega arith,
       omega arith,
-      omega arith,
+      passed-next (a .part .now) (l .loop .i) (l .loop .inv .2) nz,
       sym (bytes-agree (a .part .now) (a .name .now) (l .loop .i) nz (omega arith) (c .if4 .left)) ∙ l .loop .inv .3,
     )
 
@@ -132,7 +130,7 @@ returns-5 : tie.Need-returns-5 Inv-loop μ-loop
 unfolding isWhole
 returns-5 c =
     let l = c .before in
-    let e = ap length (string-ends (l .before .args .part .now) (l .loop .i) (c .loop-test .left)) in
+    let e = passed-ends (l .before .args .part .now) (l .loop .i) (l .loop .inv .2) (c .loop-test .left) in
     other-answers _ _ (cut (omega arith) (omega arith)) refl
 
 pub same-spec : {M : Type 1} → statement M
