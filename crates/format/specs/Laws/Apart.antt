@@ -70,12 +70,12 @@ module _ {s : List ℕ} {k : ℕ} {xs : List ℕ} (a : Apart s k xs) where
   pub apart-chain : {n : ℕ} → Holds s k n → Apart s (suc k) (visits s k n xs)
   apart-chain {n} h = elim (apart-visits n (h .keeps)) [ inl c ↦ absurd (once h c) | inr b ↦ b ]
 
--- records of one chain that keep the rules and do not repeat are few
-pub few-steps : {s : List ℕ} {k n : ℕ} → KeepsBelow s k n → (Repeat s k n → ⊥) → n ≤ length s - 11
-few-steps {s} {k} {n} keeps never = elim (apart-visits (apart-none s k) n keeps) [
-  | inl c ↦ absurd (never c)
-  | inr b ↦ omega (arith, apart-length b, visits-length s k n [])
-]
+  -- these and records of the chain of bucket k that keep the rules and do not repeat are few
+  pub apart-few : {n : ℕ} → KeepsBelow s k n → (Repeat s k n → ⊥) → length xs + n ≤ length s - 11
+  apart-few {n} keeps never = elim (apart-visits n keeps) [
+    | inl c ↦ absurd (never c)
+    | inr b ↦ omega (arith, apart-length b, visits-length s k n xs)
+  ]
 
 -- a chain with more records that keep the rules than there can be repeats
 pub repeats : {s : List ℕ} {k : ℕ} {xs : List ℕ} → 12 ≤ length s → Apart s k xs → KeepsBelow s k (length s - 10 - length xs) → Repeat s k (length s - 10 - length xs)

@@ -1,7 +1,6 @@
 -- The check goes through the chains that hold, and answers at the first that does not.
 use Prim.Native.Nat.{ℕ, zero, suc, _+_, _-_, _≤_, _<_}
 use mathlib.Core.Path.{_≡_, refl, sym, ap, _∙_}
-use mathlib.Core.Logic.{inl, inr}
 use mathlib.Core.List.{List, []}
 use native.Mathlib.Decide.{decLt}
 use native.Mathlib.Omega.{arith}
@@ -14,7 +13,7 @@ use Rattle.format.specs.declared.Fault.{Fault}
 use Rattle.format.specs.declared.Ending.the-variants.{Ended, Met, Broken, Endless}
 use Rattle.format.specs.Laws.Faults.{same-number}
 use Rattle.format.specs.Laws.Links.{Repeat, once, never-breaks, keeps-named}
-use Rattle.format.specs.Laws.Apart.{Apart, visits, visits-length, apart-none, apart-length, apart-visits, apart-chain}
+use Rattle.format.specs.Laws.Apart.{Apart, visits, visits-length, apart-none, apart-length, apart-chain, apart-few}
 use Rattle.format.specs.Laws.Along.{walk-ends, walk-breaks, walk-lasts}
 
 -- one bucket of the check, by the ending of its walk
@@ -75,7 +74,7 @@ module _ {s : List ℕ} (f : ℕ → ℕ) where
   pub few : {k n : ℕ} → Lengths s k f → KeepsBelow s k n → (Repeat s k n → ⊥) → sum f k + n ≤ length s - 11
   few {k} {n} h keeps never =
       let (xs, a, e) = chains k h in
-      elim (apart-visits a n keeps) [ inl c ↦ absurd (never c) | inr b ↦ omega (arith, apart-length b, visits-length s k n xs) ]
+      omega (arith, apart-few a keeps never)
 
   pub total : {k : ℕ} → Lengths s k f → sum f k ≤ length s - 11
   total {k} h = let (xs, a, e) = chains k h in omega (arith, apart-length a)

@@ -23,7 +23,7 @@ use Rattle.format.specs.declared.LookupAnswer.{LookupAnswer}
 use Rattle.format.specs.Laws.Faults.{same-number, orElse-none, broken-speaks, kept-passes}
 use Rattle.format.specs.Laws.Header.{header-right}
 use Rattle.format.specs.Laws.Links.{Repeat, earlier, once, goes-on, never-breaks, broken-keeps, broken-number, holds-le, before-end}
-use Rattle.format.specs.Laws.Apart.{apart-none, few-steps, repeats}
+use Rattle.format.specs.Laws.Apart.{apart-none, apart-few, repeats}
 use Rattle.format.specs.Laws.Along.{walk-ends, walk-meets, walk-breaks, walk-lasts}
 use Rattle.format.specs.Laws.Course.{Course, ends, meets, breaks, lasts, course}
 use Rattle.format.specs.Laws.Verdict.{turns}
@@ -87,7 +87,7 @@ module _ (s name : List ℕ) (room : ℕ) (asks : queryFault s name .number ≡ 
 
   -- records that keep the rules and do not repeat are fewer than a lookup may open
   within : {n : ℕ} → KeepsBelow s bucket n → (Repeat s bucket n → ⊥) → n < length s - 10 - 0
-  within keeps never = omega (arith, few-steps keeps never)
+  within keeps never = omega (arith, apart-few (apart-none s bucket) keeps never)
 
   -- a record that bears a name that none before it bears is no repeat
   first-met : {n : ℕ} → NoneBelow s name bucket n → nameOf s (link s bucket n) ≡ name → Repeat s bucket n → ⊥
