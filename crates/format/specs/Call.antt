@@ -48,7 +48,7 @@ checkBuckets (suc n) s k o =
 unfoldable pub check : List ℕ → CheckAnswer
 check s =
     let f = tablesFault s in
-    elim (f .number) [ zero ↦ checkBuckets (buckets s) s 0 0 | suc m ↦ checked (suc m) (f .place) 0 0 0 ]
+    ifKept f (checkBuckets (buckets s) s 0 0) (checked (f .number) (f .place) 0 0 0)
 
 -- what is judged of a lookup before its walk: 13, then 1 to 5
 unfoldable pub queryFault : List ℕ → List ℕ → Fault
@@ -76,7 +76,7 @@ unfoldable pub lookup : List ℕ → List ℕ → ℕ → LookupAnswer
 lookup s name room =
     let f = queryFault s name in
     let w = lookupWalk s name in
-    elim (f .number) [ zero ↦ lookupEnds s (bucketOf s name) room (w .ending) (w .opened) | suc m ↦ lookedUp (suc m) (f .place) 0 0 ]
+    ifKept f (lookupEnds s (bucketOf s name) room (w .ending) (w .opened)) (lookedUp (f .number) (f .place) 0 0)
 
 -- the lent words after an answer: with number 0 the images' words and then what stood there, else what stood there
 unfoldable pub answerWords : List ℕ → List ℕ → LookupAnswer → List ℕ
@@ -99,8 +99,8 @@ directory s i = directoryIs (directoryFault s i .number) (directoryFault s i .pl
 unfoldable pub directoryPart : List ℕ → ℕ → DirectoryPart
 directoryPart s i =
     let f = directoryFault s i in
-    partIs (f .number) (f .place) (ifKept f (be 4 s (pathField s i))) (ifKept f (length (pathOf s i)))
+    partIs (f .number) (f .place) (ifKept f (be 4 s (pathField s i)) 0) (ifKept f (length (pathOf s i)) 0)
 
 -- the part handed back for a directory: its path, and nothing with a refusal
 unfoldable pub directoryPath : List ℕ → ℕ → List ℕ
-directoryPath s i = elim (directoryFault s i .number) [ zero ↦ pathOf s i | suc m ↦ [] ]
+directoryPath s i = ifKept (directoryFault s i) (pathOf s i) []

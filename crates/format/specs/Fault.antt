@@ -19,6 +19,6 @@ infixr 20 _orElse_
 unfoldable pub _orElse_ : Fault → Fault → Fault
 _orElse_ x y = elim (x .number) [ zero ↦ y | suc n ↦ x ]
 
--- n where no rule is broken, and 0 where one is
-abbrev pub ifKept : Fault → ℕ → ℕ
-ifKept x n = elim (x .number) [ zero ↦ n | suc m ↦ 0 ]
+-- a where no rule is broken, and b where one is
+abbrev pub ifKept : {A : Type 0} → Fault → A → A → A
+ifKept {A} x a b = elim (x .number) as (λ n. A) [ zero ↦ a | suc n ↦ b ]

@@ -33,8 +33,8 @@ pathFieldOf t i = entryField (t .«directories_at») i
 abbrev pub pathJudged : List ℕ → ℕ → JudgedPath
 pathJudged s i = record {
   fault = pathFault s i;
-  start = ifKept (pathFault s i) (be 4 s (pathField s i));
-  length = ifKept (pathFault s i) (length (pathOf s i));
+  start = ifKept (pathFault s i) (be 4 s (pathField s i)) 0;
+  length = ifKept (pathFault s i) (length (pathOf s i)) 0;
 }
 
 -- a path that breaks rule x, named at p

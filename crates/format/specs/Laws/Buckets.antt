@@ -1,6 +1,6 @@
 -- The check goes through the chains that hold, and answers at the first that does not.
 use Prim.Native.Nat.{ℕ, zero, suc, _+_, _-_, _≤_, _<_}
-use mathlib.Core.Path.{_≡_, refl, sym, ap, _∙_}
+use mathlib.Core.Path.{_≡_, refl, ap, _∙_}
 use mathlib.Core.List.{List, []}
 use native.Mathlib.Decide.{decLt}
 use native.Mathlib.Omega.{arith}
@@ -11,7 +11,7 @@ use Rattle.format.specs.Call.{check, checkBuckets, checked}
 use Rattle.format.specs.Words.{KeepsAt, KeepsBelow, NoneBelow, Holds, Breaks, Sound, HeldBefore, Lengths, sum, itself}
 use Rattle.format.specs.declared.Fault.{Fault}
 use Rattle.format.specs.declared.Ending.the-variants.{Ended, Met, Broken, Endless}
-use Rattle.format.specs.Laws.Faults.{same-number}
+use Rattle.format.specs.Laws.Faults.{kept-takes, broken-takes}
 use Rattle.format.specs.Laws.Links.{Repeat, once, never-breaks, keeps-named}
 use Rattle.format.specs.Laws.Apart.{Apart, visits, visits-length, apart-none, apart-length, apart-chain, apart-few}
 use Rattle.format.specs.Laws.Along.{walk-ends, walk-breaks, walk-lasts}
@@ -36,12 +36,11 @@ module _ (s : List ℕ) (n k o : ℕ) {p : ℕ} where
 
 pub check-sound : (s : List ℕ) → Sound s → check s ≡ checkBuckets (buckets s) s 0 0
 unfolding check
-check-sound s e = rw (check, e)
+check-sound s e = kept-takes (tablesFault s) _ _ e
 
 pub check-refuses : (s : List ℕ) {f : Fault} → tablesFault s ≡ f → (f .number ≡ 0 → ⊥) → check s ≡ checked (f .number) (f .place) 0 0 0
 unfolding check
-check-refuses s {f} e some = let q : tablesFault s .number ≡ suc (f .number - 1) = omega (arith, same-number e) in
-    rw (check, q) (rw (e, ← (sym (same-number e) ∙ q)))
+check-refuses s {f} e some = rw e (broken-takes f _ _ some)
 
 -- chains that hold have lengths
 module _ {s : List ℕ} {k : ℕ} (held : HeldBefore s k) where

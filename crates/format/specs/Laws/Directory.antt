@@ -12,7 +12,7 @@ use Rattle.format.specs.Fault.{fault, ifKept}
 use Rattle.format.specs.Header.{directories, headerFault, pathField, pathPart, pathOf, pathRight, pathFault}
 use Rattle.format.specs.Call.{directoryFault, directoryPart, directoryPath, partIs}
 use Rattle.format.specs.declared.Fault.{Fault}
-use Rattle.format.specs.Laws.Faults.{orElse-first, orElse-next, orElse-none, given-none, broken-speaks, kept-passes, ifKept-none}
+use Rattle.format.specs.Laws.Faults.{orElse-first, orElse-next, orElse-none, given-none, broken-speaks, kept-passes, broken-takes}
 use Rattle.format.specs.Laws.Strings.{string-front, whole-string}
 
 module _ (s : List ℕ) (i : ℕ) where
@@ -31,10 +31,10 @@ module _ (s : List ℕ) (i : ℕ) where
 
   pub part-refused : {f : Fault} → directoryFault s i ≡ f → (f .number ≡ 0 → ⊥) → directoryPart s i ≡ partIs (f .number) (f .place) 0 0
   unfolding directoryPart
-  part-refused {f} e some = rw (directoryPart, e, ifKept-none f _ some, ifKept-none f _ some)
+  part-refused {f} e some = rw (directoryPart, e, broken-takes f (be 4 s (pathField s i)) 0 some, broken-takes f (length (pathOf s i)) 0 some)
 
   pub part-judged : {f : Fault} → directoryFault s i ≡ f
-      → directoryPart s i ≡ partIs (f .number) (f .place) (ifKept f (be 4 s (pathField s i))) (ifKept f (length (pathOf s i)))
+      → directoryPart s i ≡ partIs (f .number) (f .place) (ifKept f (be 4 s (pathField s i)) 0) (ifKept f (length (pathOf s i)) 0)
   unfolding directoryPart
   part-judged e = rw (directoryPart, e)
 

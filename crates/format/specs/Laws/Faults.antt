@@ -63,9 +63,12 @@ given-most m b n p h = given-all (λ (k : ℕ). k ≤ m) b n p zero-le h
 pub orElse-most : (m : ℕ) (x y : Fault) → x .number ≤ m → y .number ≤ m → (x orElse y) .number ≤ m
 orElse-most m x y h g = orElse-all (λ (k : ℕ). k ≤ m) x y h g
 
-pub ifKept-none : (x : Fault) (n : ℕ) → (x .number ≡ 0 → ⊥) → ifKept x n ≡ 0
-ifKept-none x n h = go (x .number) h
+pub kept-takes : {A : Type 0} (x : Fault) (a b : A) → x .number ≡ 0 → ifKept x a b ≡ a
+kept-takes x a b e = rw e
+
+pub broken-takes : {A : Type 0} (x : Fault) (a b : A) → (x .number ≡ 0 → ⊥) → ifKept x a b ≡ b
+broken-takes {A} x a b h = go (x .number) h
   where
-    go : (m : ℕ) → (m ≡ 0 → ⊥) → _≡_ {A = ℕ} (elim m as (λ k. ℕ) [ zero ↦ n | suc k ↦ 0 ]) 0
+    go : (n : ℕ) → (n ≡ 0 → ⊥) → elim n as (λ m. A) [ zero ↦ a | suc m ↦ b ] ≡ b
     go zero nz = absurd (nz refl)
-    go (suc m) nz = refl
+    go (suc n) nz = refl

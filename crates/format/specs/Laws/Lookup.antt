@@ -20,7 +20,7 @@ use Rattle.format.specs.Words.{link, KeepsAt, KeepsBelow, NoneBelow, Hol
 use Rattle.format.specs.declared.Fault.{Fault}
 use Rattle.format.specs.declared.Ending.{Ending}
 use Rattle.format.specs.declared.LookupAnswer.{LookupAnswer}
-use Rattle.format.specs.Laws.Faults.{same-number, orElse-none, broken-speaks, kept-passes}
+use Rattle.format.specs.Laws.Faults.{kept-takes, broken-takes, orElse-none, broken-speaks, kept-passes}
 use Rattle.format.specs.Laws.Header.{header-right}
 use Rattle.format.specs.Laws.Links.{Repeat, earlier, once, goes-on, never-breaks, broken-keeps, broken-number, holds-le, before-end}
 use Rattle.format.specs.Laws.Apart.{apart-none, apart-few, repeats}
@@ -31,14 +31,12 @@ use Rattle.format.specs.Laws.Verdict.{turns}
 module _ (s name : List ℕ) (room : ℕ) where
   pub lookup-refuses : {f : Fault} → queryFault s name ≡ f → (f .number ≡ 0 → ⊥) → lookup s name room ≡ lookedUp (f .number) (f .place) 0 0
   unfolding lookup
-  lookup-refuses {f} e some =
-      let q : queryFault s name .number ≡ suc (f .number - 1) = omega (arith, same-number e) in
-      rw (lookup, q) (rw (e, ← (sym (same-number e) ∙ q)))
+  lookup-refuses {f} e some = rw e (broken-takes f _ _ some)
 
   pub lookup-ends : {e : Ending} {o : ℕ} → queryFault s name .number ≡ 0 → walkBucket s name (bucketOf s name) 0 ≡ walkEnds e o
       → lookup s name room ≡ lookupEnds s (bucketOf s name) room e o
   unfolding lookup
-  lookup-ends a q = rw (lookup, a) (rw q)
+  lookup-ends a q = kept-takes (queryFault s name) _ _ a ∙ rw q
 
 -- an answer with another number than 0 leaves the words as they were
 pub answer-keeps : (s words : List ℕ) (a : LookupAnswer) → (a .number ≡ 0 → ⊥) → answerWords s words a ≡ words
