@@ -1,11 +1,27 @@
-# Compiles the C example against the static library, as C99 and with every warning an error, lets a C++ compiler read the header, and
-# compares what the example prints: c_example.sh FOLDER, where the program may be written.
+# Compiles the C example against the static library, as C99 and as C++11 and with every warning an error, and compares what both programs
+# print: c_example.sh FOLDER, where the programs may be written.
 set -eu
 cd "$(dirname "$0")/.."
-gcc -std=c99 -pedantic -Wall -Wextra -Werror -O2 -o "$1/example" bindings/c/example.c target/staticlib/libicon_cache_c.a
-g++ -std=c++11 -Wall -Wextra -Werror -fsyntax-only -x c++ bindings/c/icon_cache.h
-{
-    "$1/example" tests/caches/farm.cache cow
-    "$1/example" tests/caches/farm.cache oat
-    "$1/example" tests/caches/farm.cache pig || true
-} | diff bindings/c/example.stdout -
+library=target/staticlib/libicon_cache_c.a
+gcc -std=c99 -pedantic -Wall -Wextra -Werror -O2 -o "$1/example_c" bindings/c/example.c "$library"
+g++ -std=c++11 -Wall -Wextra -Werror -O2 -o "$1/example_cpp" -x c++ bindings/c/example.c -x none "$library"
+
+# The path of directory 1 begins at its zero byte.
+sh tests/patched.sh 104 '\000\000\000\161' > "$1/bad_path.cache"
+
+# Runs a program on one cache and one name; a status other than 0 is printed too.
+answer() {
+    "$@" 2>&1 || echo "status $?"
+}
+
+answers() {
+    answer "$1" tests/caches/farm.cache cow
+    answer "$1" tests/caches/farm.cache oat
+    answer "$1" tests/caches/farm.cache pig
+    answer "$1" tests/caches/damaged.cache oat
+    answer "$1" "$2/bad_path.cache" cow
+}
+
+for program in example_c example_cpp; do
+    answers "$1/$program" "$1" | diff bindings/c/example.stdout -
+done

@@ -1,4 +1,4 @@
-/* Reads a cache from a file and prints the images of one icon, each with its directory: example CACHE NAME */
+/* Checks a cache and prints the images of one icon, each with its directory: example CACHE NAME */
 #include "icon_cache.h"
 
 #include <stdio.h>
@@ -7,18 +7,50 @@
 #define LARGEST 65536
 
 static uint8_t cache[LARGEST];
+static size_t cache_len;
 static uint32_t words[2 * 1024]; /* a list has at most 1,024 images */
 
-static void print_image(size_t cache_len, uint32_t first, uint32_t data_offset)
+static int check(void)
 {
-    size_t start, length;
-    uint32_t number = icon_cache_directory_path(cache, cache_len, first / 65536, &start, &length);
+    size_t place, directories, icons, opened;
+    uint32_t number = icon_cache_check(cache, cache_len, &place, &directories, &icons, &opened);
     if (number != 0) {
-        printf("no directory (%u)", (unsigned)number);
-    } else {
-        printf("directory %.*s", (int)length, (const char *)cache + start);
+        printf("check: refused, %u at %zu, %zu opened\n", (unsigned)number, place, opened);
+        return 1;
     }
-    printf(", flags %u, data at %u\n", (unsigned)(first % 65536), (unsigned)data_offset);
+    printf("check: accepted, %zu icons, %zu directories, %zu opened\n", icons, directories, opened);
+    return 0;
+}
+
+/* The call for the path doesn't say where a bad one stands; the other call does. */
+static void print_directory(size_t index)
+{
+    size_t start, length, place;
+    if (icon_cache_directory_path(cache, cache_len, index, &start, &length) == 0) {
+        printf("  directory %.*s", (int)length, (const char *)cache + start);
+        return;
+    }
+    uint32_t number = icon_cache_directory(cache, cache_len, index, &place);
+    printf("  directory %zu (%u at %zu)", index, (unsigned)number, place);
+}
+
+/* Only the records that the lookup meets are judged, so it may find a name in a cache that the check refuses. */
+static int lookup(const char *name)
+{
+    size_t place, images, opened;
+    uint32_t number = icon_cache_lookup(cache, cache_len, (const uint8_t *)name, strlen(name),
+                                        words, sizeof words / sizeof words[0], &place, &images, &opened);
+    if (number != 0) {
+        printf("%s: answer %u at %zu, %zu opened\n", name, (unsigned)number, place, opened);
+        return 1;
+    }
+    printf("%s: record at %zu, %zu opened\n", name, place, opened);
+    for (size_t i = 0; i < images; i++) {
+        uint32_t first = words[2 * i];
+        print_directory(first / 65536);
+        printf(", flags %u, data at %u\n", (unsigned)(first % 65536), (unsigned)words[2 * i + 1]);
+    }
+    return 0;
 }
 
 int main(int argc, char **argv)
@@ -32,19 +64,10 @@ int main(int argc, char **argv)
         perror(argv[1]);
         return 2;
     }
-    size_t cache_len = fread(cache, 1, LARGEST, file);
+    cache_len = fread(cache, 1, LARGEST, file);
     fclose(file);
 
-    size_t place, images, opened;
-    uint32_t number = icon_cache_lookup(cache, cache_len, (const uint8_t *)argv[2], strlen(argv[2]),
-                                        words, sizeof words / sizeof words[0], &place, &images, &opened);
-    if (number != 0) {
-        printf("answer %u at %zu, %zu opened\n", (unsigned)number, place, opened);
-        return 1;
-    }
-    printf("%s: record at %zu, %zu opened\n", argv[2], place, opened);
-    for (size_t i = 0; i < images; i++) {
-        print_image(cache_len, words[2 * i], words[2 * i + 1]);
-    }
-    return 0;
+    int refused = check();
+    int not_found = lookup(argv[2]);
+    return refused || not_found;
 }
