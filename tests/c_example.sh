@@ -8,6 +8,11 @@ g++ -std=c++11 -Wall -Wextra -Werror -O2 -o "$1/example_cpp" -x c++ bindings/c/e
 
 # The path of directory 1 begins at its zero byte.
 sh tests/patched.sh 104 '\000\000\000\161' > "$1/bad_path.cache"
+# The farm cache, at the limit and one byte above.
+cp tests/caches/farm.cache "$1/largest.cache"
+truncate -s 16777216 "$1/largest.cache"
+cp "$1/largest.cache" "$1/too_large.cache"
+truncate -s 16777217 "$1/too_large.cache"
 
 # Runs a program on one cache and one name; a status other than 0 is printed too.
 answer() {
@@ -20,6 +25,10 @@ answers() {
     answer "$1" tests/caches/farm.cache pig
     answer "$1" tests/caches/damaged.cache oat
     answer "$1" "$2/bad_path.cache" cow
+    answer "$1" "$2/largest.cache" oat
+    answer "$1" "$2/too_large.cache" oat
+    answer "$1" tests/caches/no_such.cache oat
+    answer "$1" tests/caches oat
 }
 
 for program in example_c example_cpp; do

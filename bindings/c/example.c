@@ -1,14 +1,37 @@
 /* Checks a cache and prints the images of one icon, each with its directory: example CACHE NAME */
 #include "icon_cache.h"
 
+#include <errno.h>
 #include <stdio.h>
 #include <string.h>
 
-#define LARGEST 65536
+#define LARGEST 16777216
 
-static uint8_t cache[LARGEST];
+static uint8_t cache[LARGEST + 1]; /* with one byte too many the library sees that a file is too large */
 static size_t cache_len;
 static uint32_t words[2 * 1024]; /* a list has at most 1,024 images */
+
+static void say_unreadable(const char *path)
+{
+    fprintf(stderr, "%s can't be read: %s\n", path, strerror(errno));
+}
+
+/* Reads the file, or its first bytes where it is too large. A directory can be opened, but not read. */
+static int read_cache(const char *path)
+{
+    FILE *file = fopen(path, "rb");
+    if (file == NULL) {
+        say_unreadable(path);
+        return 0;
+    }
+    cache_len = fread(cache, 1, sizeof cache, file);
+    int failed = ferror(file);
+    if (failed) {
+        say_unreadable(path);
+    }
+    fclose(file);
+    return !failed;
+}
 
 static int check(void)
 {
@@ -59,14 +82,9 @@ int main(int argc, char **argv)
         fprintf(stderr, "usage: example CACHE NAME\n");
         return 2;
     }
-    FILE *file = fopen(argv[1], "rb");
-    if (file == NULL) {
-        perror(argv[1]);
+    if (!read_cache(argv[1])) {
         return 2;
     }
-    cache_len = fread(cache, 1, LARGEST, file);
-    fclose(file);
-
     int refused = check();
     int not_found = lookup(argv[2]);
     return refused || not_found;
