@@ -1,5 +1,6 @@
 //! The command line.
 
+use crate::input::is_standard_input;
 use crate::{help, show};
 use std::ffi::{OsStr, OsString};
 
@@ -36,7 +37,8 @@ pub fn parse(mut arguments: impl Iterator<Item = OsString>) -> Result<Request, M
     }
 }
 
-/// The request of a command, made of its operands. The error says what lacks.
+/// The request of a command, made of its operands. The error says what is wrong
+/// with them.
 type MakeRequest = fn(Vec<OsString>) -> Result<Request, &'static str>;
 
 fn command(
@@ -54,13 +56,16 @@ fn command(
             _ => operands.push(argument),
         }
     }
-    make(operands).or_else(|lacking| misuse(command, lacking))
+    make(operands).or_else(|message| misuse(command, message))
 }
 
+/// Standard input can be read only once.
 fn check(files: Vec<OsString>) -> Result<Request, &'static str> {
-    match files.len() {
-        0 => Err("a file is missing"),
-        _ => Ok(Request::Check(files)),
+    let from_input = files.iter().filter(|file| is_standard_input(file));
+    match (files.len(), from_input.count()) {
+        (0, _) => Err("a file is missing"),
+        (_, 0 | 1) => Ok(Request::Check(files)),
+        _ => Err("standard input is named twice"),
     }
 }
 

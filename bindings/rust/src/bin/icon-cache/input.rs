@@ -17,7 +17,7 @@ pub enum Source {
 
 impl Source {
     pub fn of(operand: &OsStr) -> Source {
-        if operand == "-" {
+        if is_standard_input(operand) {
             return Source::StandardInput;
         }
         let path = PathBuf::from(operand);
@@ -42,6 +42,10 @@ impl Source {
             Source::File(path) => show::bytes(path.as_os_str().as_encoded_bytes()),
         }
     }
+}
+
+pub fn is_standard_input(operand: &OsStr) -> bool {
+    operand == "-"
 }
 
 /// `io::stdin` would read ahead of what it is asked for.
