@@ -12,14 +12,22 @@ const NO_SUCH_DIRECTORY: u32 = 15;
 const ABSENT: u32 = 30;
 
 pub fn check(output: &mut Output, files: &[OsString]) -> Status {
-    let status = files.iter().map(|file| check_file(output, file));
+    let status = files.iter().map(|file| {
+        let status = check_file(output, file);
+        output.flush();
+        status
+    });
     status.max().unwrap_or(Status::Good)
 }
 
 pub fn lookup(output: &mut Output, file: &OsStr, names: &[OsString]) -> Status {
     with_cache(output, file, |output, _, cache| {
         let names = names.iter().map(|name| name.as_encoded_bytes());
-        let status = names.map(|name| lookup_name(output, cache, name));
+        let status = names.map(|name| {
+            let status = lookup_name(output, cache, name);
+            output.flush();
+            status
+        });
         status.max().unwrap_or(Status::Good)
     })
 }

@@ -78,7 +78,8 @@ impl Output {
         let _ = writeln!(io::stderr(), "icon-cache: {message}");
     }
 
-    fn flush(&mut self) {
+    /// Shows the lines so far; the next may take a while.
+    pub fn flush(&mut self) {
         if self.error.is_none() {
             self.error = self.stream.flush().err();
         }
