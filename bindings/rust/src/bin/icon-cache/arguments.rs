@@ -28,13 +28,26 @@ pub fn parse(mut arguments: impl Iterator<Item = OsString>) -> Result<Request, M
         return misuse("", "a command is missing");
     };
     match first.to_str() {
-        Some("-h" | "--help") => Ok(Request::Help(help::TOOL)),
-        Some("-V" | "--version") => Ok(Request::Version),
+        Some("-h" | "--help") => alone(&first, arguments, Request::Help(help::TOOL)),
+        Some("-V" | "--version") => alone(&first, arguments, Request::Version),
         Some("check") => command("check ", help::CHECK, arguments, check),
         Some("lookup") => command("lookup ", help::LOOKUP, arguments, lookup),
         Some("dirs") => command("dirs ", help::DIRS, arguments, dirs),
         _ => unknown("", &first),
     }
+}
+
+/// The request, if nothing stands behind its option.
+fn alone(
+    option: &OsStr,
+    mut arguments: impl Iterator<Item = OsString>,
+    request: Request,
+) -> Result<Request, Misuse> {
+    if arguments.next().is_none() {
+        return Ok(request);
+    }
+    let option = show::bytes(option.as_encoded_bytes());
+    misuse("", &format!("{option} takes no arguments"))
 }
 
 /// The request of a command, made of its operands. The error says what is wrong
@@ -97,9 +110,10 @@ fn is_option(argument: &OsStr) -> bool {
 
 fn unknown(command: &'static str, argument: &OsStr) -> Result<Request, Misuse> {
     let shown = show::bytes(argument.as_encoded_bytes());
-    let kind = match (is_option(argument), command) {
-        (false, "") => "command",
-        _ => "option",
+    let kind = if is_option(argument) {
+        "option"
+    } else {
+        "command"
     };
     misuse(command, &format!("there is no {kind} {shown}"))
 }

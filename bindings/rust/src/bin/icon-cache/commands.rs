@@ -78,10 +78,7 @@ fn say_refused(output: &mut Output, what: &str, refusal: &Refusal) -> Status {
 }
 
 fn lookup_name(output: &mut Output, cache: &[u8], name: &[u8]) -> Status {
-    let shown = match name {
-        [] => "\"\"".to_owned(),
-        _ => show::bytes(name),
-    };
+    let shown = show::bytes(name);
     match icon_cache::lookup(cache, name) {
         Ok(icon) => say_found(output, cache, &shown, &icon),
         Err(refusal) if refusal.number == ABSENT => {

@@ -22,7 +22,8 @@ Exit status:
   1  a cache is refused, or an icon is absent
   2  a wrong command line, or a file that can't be read
 
-On a terminal the output has colours, unless NO_COLOR is set.";
+On a terminal the output has colours, unless NO_COLOR is set and not empty, or
+TERM is dumb.";
 
 pub const CHECK: &str = "\
 Says whether each cache is sound, in one line for each file.

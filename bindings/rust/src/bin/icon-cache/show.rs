@@ -3,9 +3,13 @@
 use icon_cache::{Image, Refusal};
 use std::fmt::Write;
 
-/// Bytes of a path or a name. What a terminal may obey or not show at all is
-/// escaped, and so is what is not UTF-8.
+/// Bytes of a path or a name. Bytes that are not UTF-8 are escaped, and so are
+/// the characters that `escape_debug` escapes, all controls among them; quotes
+/// are not. No bytes at all are shown as two quotes.
 pub fn bytes(bytes: &[u8]) -> String {
+    if bytes.is_empty() {
+        return "\"\"".to_owned();
+    }
     let mut shown = String::new();
     for chunk in bytes.utf8_chunks() {
         shown.push_str(&text(chunk.valid()));
@@ -63,6 +67,11 @@ mod tests {
     fn plain_text_stays() {
         let text = "scalable/Größe 'x' \"y\" 牛";
         assert_eq!(bytes(text.as_bytes()), text);
+    }
+
+    #[test]
+    fn nothing_is_shown_too() {
+        assert_eq!(bytes(b""), "\"\"");
     }
 
     #[test]
