@@ -39,7 +39,8 @@ extern "C" {
 
 /*
  * Checks the whole cache. With any number but 0, *directories and *icons are 0. *opened is the number of icon records that were
- * looked at.
+ * looked at. With an endless chain in a cache of 16 MiB this takes tens of seconds, with one in 256 KiB less than a second: where somebody
+ * waits, do it in a thread of its own or set a smaller limit of length.
  */
 uint32_t icon_cache_check(const uint8_t *cache, size_t cache_len,
                           size_t *place, size_t *directories, size_t *icons, size_t *opened);
@@ -49,6 +50,12 @@ uint32_t icon_cache_check(const uint8_t *cache, size_t cache_len,
  * 65,536 plus the flags (bitmap suffix 1, XPM suffix 2, SVG suffix 4, icon file 8), then the offset of the image data, and the words
  * beyond are as they were. With any other number all words are as they were. With 14, *images says how many images there are: lend
  * 2 * *images words. With any number but 0 and 14, *images is 0.
+ *
+ * The flags are named as the layout's document numbers them. Some generators, GTK's among them, write another numbering under the same
+ * version (XPM suffix 1, SVG suffix 2, bitmap suffix 4), so the names may be wrong for their caches.
+ *
+ * An endless chain costs a little more time than in the check, tens of seconds at 16 MiB and less than a second at 256 KiB: where somebody
+ * waits, do it in a thread of its own or set a smaller limit of length.
  */
 uint32_t icon_cache_lookup(const uint8_t *cache, size_t cache_len,
                            const uint8_t *name, size_t name_len,

@@ -48,6 +48,10 @@ pub struct Checked {
 
 /// One image of an icon.
 ///
+/// The flags are named as the layout's document numbers them. Some generators,
+/// GTK's among them, write another numbering under the same version (XPM suffix
+/// 1, SVG suffix 2, bitmap suffix 4), so the names may be wrong for their caches.
+///
 /// ```
 /// use icon_cache::{lookup, Image, FARM_CACHE};
 ///
@@ -91,6 +95,10 @@ pub struct Found {
 
 /// Checks the whole cache.
 ///
+/// With an endless chain in a cache of 16 MiB this takes tens of seconds, with
+/// one in 256 KiB less than a second: where somebody waits, do it in a thread of
+/// its own or set a smaller limit of length.
+///
 /// ```
 /// use icon_cache::{check, FARM_CACHE};
 ///
@@ -122,6 +130,10 @@ pub fn check(cache: &[u8]) -> Result<Checked, Refusal> {
 
 /// Looks up one icon name. Only the records that it meets are judged, so a name
 /// may be found in a cache that [`check`] refuses.
+///
+/// An endless chain costs it a little more time than it costs [`check`], tens of
+/// seconds at 16 MiB and less than a second at 256 KiB: where somebody waits, do
+/// it in a thread of its own or set a smaller limit of length.
 ///
 /// ```
 /// use icon_cache::{lookup, FARM_CACHE};
