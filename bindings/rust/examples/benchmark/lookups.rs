@@ -12,7 +12,7 @@ use std::hint::black_box;
 /// small cache many times.
 const NAMES: usize = 90_000;
 /// Room for the images of any icon.
-const WORDS: usize = 2 * 1_024;
+pub const WORDS: usize = 2 * 1_024;
 
 pub fn hits(cache: &Cache) -> Rounds<'_> {
     let there = reader::names(&cache.bytes);

@@ -7,7 +7,10 @@ use std::{fs, thread};
 pub fn print_head() {
     let processors = thread::available_parallelism().map_or(1, usize::from);
     println!("Processors: {processors}, {}", processor_model());
-    println!("Times are the best of some rounds. A ratio says how many times as long the library takes.\n");
+    println!(
+        "Times are the best of some rounds; the rows of long and endless chains are measured once."
+    );
+    println!("A ratio says how many times as long the library takes.\n");
     println!(
         "{:<26} {:<7} {:>10} {:>10} {:>10} {:>6} {:>10} {:>6} {:>10} {:>6}",
         "cache",
