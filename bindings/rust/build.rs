@@ -13,7 +13,10 @@ fn main() {
     println!("cargo:rerun-if-changed={}", archive.display());
     if !archive.is_file() {
         eprintln!("error: there is no {}", archive.display());
-        eprintln!("Build the static library first, or name its folder in {FOLDER}.");
+        eprintln!("Build the static library first: rt staticlib icon_cache_c");
+        eprintln!(
+            "If it stands elsewhere, name its folder in {FOLDER}: it must be an absolute path."
+        );
         process::exit(1);
     }
     println!("cargo:rustc-link-search=native={}", folder.display());
