@@ -25,13 +25,13 @@ mod refusal;
 pub use farm::FARM_CACHE;
 pub use refusal::Refusal;
 
-/// The largest length of a cache, 16 MiB. A longer one is refused with number 2.
+/// The largest length of a cache, 16 MiB. A longer one is refused.
 ///
 /// ```
-/// use icon_cache::{check, LARGEST};
+/// use icon_cache::{check, Refusal, LARGEST};
 ///
 /// let refusal = check(&vec![0; LARGEST + 1]).unwrap_err();
-/// assert_eq!(refusal.number, 2);
+/// assert_eq!(refusal.number, Refusal::TOO_LARGE);
 /// ```
 pub const LARGEST: usize = 16_777_216;
 
@@ -100,7 +100,7 @@ pub struct Found {
 /// its own or set a smaller limit of length.
 ///
 /// ```
-/// use icon_cache::{check, FARM_CACHE};
+/// use icon_cache::{check, Refusal, FARM_CACHE};
 ///
 /// let checked = check(FARM_CACHE).unwrap();
 /// assert_eq!((checked.directories, checked.icons), (2, 3));
@@ -109,7 +109,8 @@ pub struct Found {
 /// let mut cache = FARM_CACHE.to_vec();
 /// cache[40..44].copy_from_slice(&28u32.to_be_bytes());
 /// let refusal = check(&cache).unwrap_err();
-/// assert_eq!((refusal.number, refusal.place), (12, 16));
+/// assert_eq!(refusal.number, Refusal::ENDLESS_CHAIN);
+/// assert_eq!(refusal.place, 16);
 /// assert_eq!(refusal.to_string(), "the chain of this bucket never ends");
 /// ```
 pub fn check(cache: &[u8]) -> Result<Checked, Refusal> {
@@ -136,19 +137,20 @@ pub fn check(cache: &[u8]) -> Result<Checked, Refusal> {
 /// it in a thread of its own or set a smaller limit of length.
 ///
 /// ```
-/// use icon_cache::{lookup, FARM_CACHE};
+/// use icon_cache::{lookup, Refusal, FARM_CACHE};
 ///
 /// let cow = lookup(FARM_CACHE, b"cow").unwrap();
 /// assert_eq!((cow.record, cow.opened), (52, 1));
 /// assert_eq!(cow.images.len(), 2);
 /// assert_eq!((cow.images[1].directory, cow.images[1].flags), (1, 4));
 ///
-/// assert_eq!(lookup(FARM_CACHE, b"pig").unwrap_err().number, 30);
+/// let refusal = lookup(FARM_CACHE, b"pig").unwrap_err();
+/// assert_eq!(refusal.number, Refusal::ABSENT);
 /// ```
 pub fn lookup(cache: &[u8], name: &[u8]) -> Result<Found, Refusal> {
     let mut usual = [0; 2 * USUAL_IMAGES];
     let answer = raw::lookup(cache, name, &mut usual);
-    if answer.number != 14 {
+    if answer.number != Refusal::NO_ROOM {
         return found(answer, &usual);
     }
     // This answer says how many images there are.
@@ -190,10 +192,11 @@ fn image(words: &[u32]) -> Image {
 /// bytes but zero and doesn't begin with a slash.
 ///
 /// ```
-/// use icon_cache::{directory, FARM_CACHE};
+/// use icon_cache::{directory, Refusal, FARM_CACHE};
 ///
 /// assert_eq!(directory(FARM_CACHE, 1).unwrap(), b"64");
-/// assert_eq!(directory(FARM_CACHE, 2).unwrap_err().number, 15);
+/// let refusal = directory(FARM_CACHE, 2).unwrap_err();
+/// assert_eq!(refusal.number, Refusal::NO_SUCH_DIRECTORY);
 /// ```
 pub fn directory(cache: &[u8], index: usize) -> Result<&[u8], Refusal> {
     let answer = raw::directory(cache, index);

@@ -5,10 +5,10 @@ use std::fmt;
 /// number of records opened until then. It is displayed as one sentence.
 ///
 /// ```
-/// use icon_cache::{check, lookup, FARM_CACHE};
+/// use icon_cache::{check, lookup, Refusal, FARM_CACHE};
 ///
 /// let refusal = lookup(FARM_CACHE, b"pig").unwrap_err();
-/// assert_eq!(refusal.number, 30);
+/// assert_eq!(refusal.number, Refusal::ABSENT);
 /// assert_eq!(refusal.to_string(), "there is no icon of this name");
 ///
 /// // "cow" is the last string; without its zero byte it has no end.
@@ -24,6 +24,23 @@ pub struct Refusal {
     pub place: usize,
     /// How many icon records the call opened.
     pub opened: usize,
+}
+
+/// The numbers that callers tell apart.
+impl Refusal {
+    /// The cache is longer than [`LARGEST`](crate::LARGEST).
+    pub const TOO_LARGE: u32 = 2;
+    /// The path of a directory is not allowed. Other directories may still be
+    /// asked for.
+    pub const BAD_PATH: u32 = 6;
+    /// A chain never ends.
+    pub const ENDLESS_CHAIN: u32 = 12;
+    /// The words lent to [`raw::lookup`](crate::raw::lookup) are too few.
+    pub const NO_ROOM: u32 = 14;
+    /// No directory has the index asked for.
+    pub const NO_SUCH_DIRECTORY: u32 = 15;
+    /// No record bears the name asked for.
+    pub const ABSENT: u32 = 30;
 }
 
 impl fmt::Display for Refusal {
@@ -57,16 +74,31 @@ mod tests {
     use super::Refusal;
     use std::collections::HashSet;
 
+    fn sentence(number: u32) -> String {
+        let refusal = Refusal {
+            number,
+            place: 0,
+            opened: 0,
+        };
+        refusal.to_string()
+    }
+
+    #[test]
+    fn the_named_numbers_have_their_sentence() {
+        for (number, words) in [
+            (Refusal::TOO_LARGE, "longer than"),
+            (Refusal::BAD_PATH, "this directory path"),
+            (Refusal::ENDLESS_CHAIN, "never ends"),
+            (Refusal::NO_ROOM, "too little room"),
+            (Refusal::NO_SUCH_DIRECTORY, "no directory"),
+            (Refusal::ABSENT, "no icon"),
+        ] {
+            assert!(sentence(number).contains(words), "{number}");
+        }
+    }
+
     #[test]
     fn each_number_has_its_own_sentence() {
-        let sentence = |number| {
-            let refusal = Refusal {
-                number,
-                place: 0,
-                opened: 0,
-            };
-            refusal.to_string()
-        };
         let known: HashSet<_> = (1..=15).chain([30]).map(sentence).collect();
         assert_eq!(known.len(), 16);
         assert!(!known.contains(&sentence(0)));

@@ -6,11 +6,6 @@ use crate::show;
 use icon_cache::{Found, Image, Refusal};
 use std::ffi::{OsStr, OsString};
 
-/// The answer numbers that are told apart.
-const BAD_PATH: u32 = 6;
-const NO_SUCH_DIRECTORY: u32 = 15;
-const ABSENT: u32 = 30;
-
 pub fn check(output: &mut Output, files: &[OsString]) -> Status {
     let status = files.iter().map(|file| {
         let status = check_file(output, file);
@@ -81,7 +76,7 @@ fn lookup_name(output: &mut Output, cache: &[u8], name: &[u8]) -> Status {
     let shown = show::bytes(name);
     match icon_cache::lookup(cache, name) {
         Ok(icon) => say_found(output, cache, &shown, &icon),
-        Err(refusal) if refusal.number == ABSENT => {
+        Err(refusal) if refusal.number == Refusal::ABSENT => {
             let absent = output.paint(Colour::Yellow, "absent");
             output.line(&format!("{shown}: {absent}: {refusal}"));
             Status::Refused
@@ -134,8 +129,8 @@ fn list_directories(output: &mut Output, shown: &str, cache: &[u8]) -> Status {
         match icon_cache::directory(cache, index) {
             Ok(path) => output.line(&format!("{index}: {}", show::bytes(path))),
             Err(refusal) => match refusal.number {
-                BAD_PATH => status = say_refused(output, &index.to_string(), &refusal),
-                NO_SUCH_DIRECTORY => break,
+                Refusal::BAD_PATH => status = say_refused(output, &index.to_string(), &refusal),
+                Refusal::NO_SUCH_DIRECTORY => break,
                 _ => return say_refused(output, shown, &refusal),
             },
         }
