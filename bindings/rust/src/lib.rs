@@ -199,16 +199,19 @@ fn image(words: &[u32]) -> Image {
 /// assert_eq!(refusal.number, Refusal::NO_SUCH_DIRECTORY);
 /// ```
 pub fn directory(cache: &[u8], index: usize) -> Result<&[u8], Refusal> {
+    let path = raw::directory_path(cache, index);
+    match path.number {
+        0 => Ok(&cache[path.start..][..path.length]),
+        _ => Err(directory_refusal(cache, index)),
+    }
+}
+
+/// The call for the path doesn't say where the fault is.
+fn directory_refusal(cache: &[u8], index: usize) -> Refusal {
     let answer = raw::directory(cache, index);
-    match answer.number {
-        0 => {
-            let path = raw::directory_path(cache, index);
-            Ok(&cache[path.start..][..path.length])
-        }
-        number => Err(Refusal {
-            number,
-            place: answer.place,
-            opened: 0,
-        }),
+    Refusal {
+        number: answer.number,
+        place: answer.place,
+        opened: 0,
     }
 }
