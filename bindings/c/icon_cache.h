@@ -54,7 +54,7 @@ uint32_t icon_cache_check(const uint8_t *cache, size_t cache_len,
  * The flags are named as the layout's document numbers them. Some generators, GTK's among them, write another numbering under the same
  * version (XPM suffix 1, SVG suffix 2, bitmap suffix 4), so the names may be wrong for their caches.
  *
- * An endless chain costs a little more time than in the check, tens of seconds at 16 MiB and less than a second at 256 KiB: where somebody
+ * An endless chain costs even more time than in the check, tens of seconds at 16 MiB and less than a second at 256 KiB: where somebody
  * waits, do it in a thread of its own or set a smaller limit of length.
  */
 uint32_t icon_cache_lookup(const uint8_t *cache, size_t cache_len,

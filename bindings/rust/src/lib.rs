@@ -132,7 +132,7 @@ pub fn check(cache: &[u8]) -> Result<Checked, Refusal> {
 /// Looks up one icon name. Only the records that it meets are judged, so a name
 /// may be found in a cache that [`check`] refuses.
 ///
-/// An endless chain costs it a little more time than it costs [`check`], tens of
+/// An endless chain costs it even more time than it costs [`check`], tens of
 /// seconds at 16 MiB and less than a second at 256 KiB: where somebody waits, do
 /// it in a thread of its own or set a smaller limit of length.
 ///
