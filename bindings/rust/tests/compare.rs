@@ -10,13 +10,16 @@ mod side_by_side;
 
 use generator::{damage, name_in_bucket, name_of_hash, series, Random, Sound};
 use side_by_side::{Difference, Pair};
+use std::collections::HashSet;
 use std::env;
+use std::hash::{DefaultHasher, Hash, Hasher};
 use std::sync::atomic::{AtomicBool, AtomicU64, Ordering};
 use std::thread;
 use std::time::Instant;
 
 const SEED: u64 = 20_260_101;
-const BUFFERS: u64 = 200_000;
+/// How many different buffers there are at least.
+const BUFFERS: u64 = 400_000;
 
 /// The work is cut into lanes and not by the number of processors, so that a
 /// seed gives the same buffers everywhere.
@@ -38,6 +41,7 @@ fn the_library_agrees_with_the_reader() {
     counts.print();
     println!("in {:.1?}", start.elapsed());
     counts.demand_every_answer();
+    assert!(counts.different() >= buffers, "too few different buffers");
 }
 
 fn from_environment(variable: &str, otherwise: u64) -> u64 {
@@ -122,7 +126,7 @@ impl<'a> Comparison<'a> {
 
     fn run_rounds(&mut self, buffers: u64) {
         let mut round = self.lane;
-        while self.counts.buffers < buffers && !self.stopped() {
+        while self.counts.different() < buffers && !self.stopped() {
             self.random = Random::new(self.seed, round);
             self.run_round((round / LANES) % 200 == 20);
             round += LANES;
@@ -174,7 +178,7 @@ impl<'a> Comparison<'a> {
         if self.stopped() {
             return;
         }
-        self.counts.buffers += 1;
+        self.counts.meet(lent);
         if let Err(difference) = self.ask_all(lent) {
             self.report = Some(report(what, lent, &difference));
         }
@@ -322,6 +326,8 @@ fn hex(bytes: &[u8]) -> String {
 #[derive(Default)]
 struct Counts {
     buffers: u64,
+    /// The hashes of the buffers: damages at random may make the same twice.
+    met: HashSet<u64>,
     /// Buffers made sound; damaged ones may be sound too.
     sound: u64,
     check: [u64; 31],
@@ -331,8 +337,20 @@ struct Counts {
 }
 
 impl Counts {
+    fn meet(&mut self, buffer: &[u8]) {
+        let mut hasher = DefaultHasher::new();
+        buffer.hash(&mut hasher);
+        self.buffers += 1;
+        self.met.insert(hasher.finish());
+    }
+
+    fn different(&self) -> u64 {
+        self.met.len() as u64
+    }
+
     fn add(&mut self, other: &Counts) {
         self.buffers += other.buffers;
+        self.met.extend(&other.met);
         self.sound += other.sound;
         for (sum, more) in [
             (&mut self.check, &other.check),
@@ -359,7 +377,9 @@ impl Counts {
     }
 
     fn print(&self) {
-        println!("{} buffers, {} made sound", self.buffers, self.sound);
+        let different = self.different();
+        println!("{} buffers, {different} different", self.buffers);
+        println!("{} made sound", self.sound);
         println!("answer       check      lookup   directory        path");
         for number in (0..=15).chain([30]) {
             let counts = self.calls().map(|(_, counts, _)| counts[number]);
