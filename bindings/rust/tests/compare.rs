@@ -20,7 +20,11 @@ use std::time::Instant;
 
 const SEED: u64 = 20_260_101;
 /// How many different buffers there are at least.
-const BUFFERS: u64 = 400_000;
+const BUFFERS: u64 = 1_000_000;
+
+/// One sound cache in so many is damaged on purpose. That makes more buffers
+/// than all other rounds; with more such caches fewer others would be met.
+const ON_PURPOSE: u64 = 20;
 
 /// The work is cut into lanes and not by the number of processors, so that a
 /// seed gives the same buffers everywhere.
@@ -42,6 +46,7 @@ fn the_library_agrees_with_the_reader() {
     counts.print();
     println!("in {:.1?}", start.elapsed());
     counts.demand_every_answer();
+    counts.on_purpose.demand_large_ones();
     assert!(counts.different() >= buffers, "too few different buffers");
 }
 
@@ -129,7 +134,7 @@ impl<'a> Comparison<'a> {
         let mut round = self.lane;
         while self.counts.different() < buffers && !self.stopped() {
             self.random = Random::new(self.seed, round);
-            self.run_round((round / LANES) % 200 == 20);
+            self.run_round((round / LANES) % ON_PURPOSE == ON_PURPOSE / 2);
             round += LANES;
         }
     }
@@ -153,16 +158,28 @@ impl<'a> Comparison<'a> {
         // call that reads too far finds what it expects.
         let length = self.random.below(sound.bytes.len());
         self.compare_lent("cut", &sound.bytes[..length]);
-        if on_purpose && sound.bytes.len() < 1_500 {
+        if on_purpose {
             self.run_on_purpose(&sound);
         }
     }
 
     fn run_on_purpose(&mut self, sound: &Sound) {
-        damage::every_field(sound, |bytes| self.compare("every field", bytes));
-        damage::every_chain_end(sound, |bytes| self.compare("every chain end", bytes));
+        self.counts.on_purpose.add(&OnPurpose::of(sound));
+        let mut damages = Thinned::new(&mut self.random, sound);
+        damage::every_field(sound, |bytes| {
+            if damages.take_next() {
+                self.compare("every field", bytes);
+            }
+        });
+        damage::every_chain_end(sound, |bytes| {
+            if damages.take_next() {
+                self.compare("every chain end", bytes);
+            }
+        });
         for length in 0..sound.bytes.len() {
-            self.compare_lent("every length", &sound.bytes[..length]);
+            if damages.take_next() {
+                self.compare_lent("every length", &sound.bytes[..length]);
+            }
         }
     }
 
@@ -262,6 +279,27 @@ impl<'a> Comparison<'a> {
     }
 }
 
+/// Takes all damages of a cache with few records, and every so many of one with
+/// many: both the number of damages and the work on each grow with the records.
+struct Thinned {
+    step: usize,
+    turn: usize,
+}
+
+impl Thinned {
+    fn new(random: &mut Random, sound: &Sound) -> Self {
+        let records = sound.names.len();
+        let step = 1 + records * records / 400;
+        let turn = random.below(step);
+        Thinned { step, turn }
+    }
+
+    fn take_next(&mut self) -> bool {
+        self.turn = (self.turn + 1) % self.step;
+        self.turn == 0
+    }
+}
+
 /// Names of the same bucket: shorter, longer and another one.
 fn neighbours(random: &mut Random, name: &[u8], buckets: usize) -> Vec<Vec<u8>> {
     let bucket = reader::hash(name) as usize % buckets;
@@ -323,6 +361,36 @@ fn hex(bytes: &[u8]) -> String {
     bytes.iter().map(|byte| format!("{byte:02X}")).collect()
 }
 
+/// The caches damaged on purpose, and the most directories and buckets of one.
+#[derive(Default)]
+struct OnPurpose {
+    caches: u64,
+    directories: usize,
+    buckets: usize,
+}
+
+impl OnPurpose {
+    fn of(sound: &Sound) -> Self {
+        OnPurpose {
+            caches: 1,
+            directories: sound.directories,
+            buckets: sound.buckets(),
+        }
+    }
+
+    fn add(&mut self, other: &OnPurpose) {
+        self.caches += other.caches;
+        self.directories = self.directories.max(other.directories);
+        self.buckets = self.buckets.max(other.buckets);
+    }
+
+    /// The small caches alone would leave the far ends of the tables alone.
+    fn demand_large_ones(&self) {
+        assert!(self.directories >= 20, "no cache of many directories");
+        assert!(self.buckets >= 50, "no cache of many buckets");
+    }
+}
+
 /// How often each answer number was met, by call.
 #[derive(Default)]
 struct Counts {
@@ -331,6 +399,7 @@ struct Counts {
     met: HashSet<u64>,
     /// Buffers made sound; damaged ones may be sound too.
     sound: u64,
+    on_purpose: OnPurpose,
     check: [u64; 31],
     lookup: [u64; 31],
     directory: [u64; 31],
@@ -353,6 +422,7 @@ impl Counts {
         self.buffers += other.buffers;
         self.met.extend(&other.met);
         self.sound += other.sound;
+        self.on_purpose.add(&other.on_purpose);
         for (sum, more) in [
             (&mut self.check, &other.check),
             (&mut self.lookup, &other.lookup),
@@ -380,7 +450,13 @@ impl Counts {
     fn print(&self) {
         let different = self.different();
         println!("{} buffers, {different} different", self.buffers);
-        println!("{} made sound", self.sound);
+        let OnPurpose {
+            caches,
+            directories,
+            buckets,
+        } = self.on_purpose;
+        println!("{} made sound, {caches} damaged on purpose", self.sound);
+        println!("with up to {directories} directories and {buckets} buckets");
         println!("answer       check      lookup   directory        path");
         for number in (0..=15).chain([30]) {
             let counts = self.calls().map(|(_, counts, _)| counts[number]);
