@@ -126,8 +126,15 @@ impl<'a> Comparison<'a> {
         let farm = Sound::farm();
         self.names.clone_from(&farm.names);
         self.run_on_purpose(&farm);
-        series::chains(|bytes| self.compare("chain", bytes));
-        series::large(|what, bytes| self.compare(what, bytes));
+        series::chains(|case| self.compare_case(case));
+        series::many_directories(|case| self.compare_case(case));
+        series::many_buckets(|case| self.compare_case(case));
+        series::largest(|case| self.compare_case(case));
+    }
+
+    fn compare_case(&mut self, case: &series::Case) {
+        self.names.clone_from(&case.names);
+        self.compare(&case.what, &case.bytes);
     }
 
     fn run_rounds(&mut self, buffers: u64) {
@@ -246,12 +253,12 @@ impl<'a> Comparison<'a> {
         if cache.len() > LARGE {
             queries.truncate(2);
             queries.push(random.text(3));
+            queries.extend(some_of(random, &self.names));
             return queries;
         }
         queries.extend(there.last().map(|name| name.to_vec()));
         queries.extend(random.pick(&there).map(|name| name.to_vec()));
-        queries.extend(random.pick(&self.names).cloned());
-        queries.extend(random.pick(&self.names).cloned());
+        queries.extend(some_of(random, &self.names));
         let length = random.between(1, 5);
         queries.push(random.text(length));
         let length = *random.pick(&[1, 2, 254, 255]).expect("there are some");
@@ -317,6 +324,15 @@ fn neighbours(random: &mut Random, name: &[u8], buckets: usize) -> Vec<Vec<u8>> 
     names
 }
 
+/// All of a few names, and two of many.
+fn some_of(random: &mut Random, names: &[Vec<u8>]) -> Vec<Vec<u8>> {
+    if names.len() <= 3 {
+        return names.to_vec();
+    }
+    let two = [random.pick(names), random.pick(names)];
+    two.into_iter().flatten().cloned().collect()
+}
+
 fn with_zero_byte(random: &mut Random, there: &[&[u8]]) -> Vec<u8> {
     let mut name = match random.pick(there) {
         Some(name) => name.to_vec(),
@@ -347,7 +363,8 @@ fn demand_sound(sound: &Sound) {
 
 fn report(what: &str, lent: &[u8], difference: &Difference) -> String {
     let length = lent.len();
-    // The large buffers are of the fixed series, known by their description.
+    // The large buffers are of the fixed series, whose descriptions tell how
+    // to make them again.
     let (shown, note) = if length > LARGE {
         (&lent[..1_000], ", the first 1,000")
     } else {
