@@ -1,8 +1,9 @@
 //! Asks the library and the reader the same and compares every part of their
-//! answers.
+//! answers. The safe functions are asked along with `raw`: they must tell the
+//! same in their own words.
 
 use crate::reader;
-use icon_cache::raw;
+use icon_cache::{raw, Checked, Found, Image, Refusal};
 use std::fmt::{self, Debug};
 
 /// Words beyond the room on either side, which no call may touch.
@@ -47,7 +48,11 @@ impl<'a> Pair<'a> {
             icons: answer.icons,
             opened: answer.opened,
         };
-        self.agree(|| "check".into(), library, reader::check(&self.copy))
+        let reader = reader::check(&self.copy);
+        self.agree(|| "check".into(), library, reader)?;
+        let safe = icon_cache::check(self.lent);
+        self.agree(|| "safe check".into(), safe, checked(&reader))?;
+        Ok(reader)
     }
 
     /// Looks up `name` with `room` words lent, and gives them after the call.
@@ -70,7 +75,14 @@ impl<'a> Pair<'a> {
         self.agree(call, library, reader)?;
         let call = || format!("words after {}, {GUARD} more on either side", call());
         self.agree(call, &words, &expected)?;
-        Ok((reader, expected[GUARD..][..room].to_vec()))
+        let words = expected[GUARD..][..room].to_vec();
+        // With 14 the words do not hold the images that the safe call gives.
+        if reader.number != 14 {
+            let safe = icon_cache::lookup(self.lent, name);
+            let call = || format!("safe lookup {name:02x?}");
+            self.agree(call, safe, found(&reader, &words))?;
+        }
+        Ok((reader, words))
     }
 
     pub fn directory(&self, index: usize) -> Result<reader::Directory, Difference> {
@@ -80,7 +92,8 @@ impl<'a> Pair<'a> {
             place: answer.place,
         };
         let reader = reader::directory(&self.copy, index);
-        self.agree(|| format!("directory {index}"), library, reader)
+        self.agree(|| format!("directory {index}"), library, reader)?;
+        Ok(reader)
     }
 
     pub fn directory_path(&self, index: usize) -> Result<reader::Path, Difference> {
@@ -91,7 +104,18 @@ impl<'a> Pair<'a> {
             length: answer.length,
         };
         let reader = reader::directory_path(&self.copy, index);
-        self.agree(|| format!("path of directory {index}"), library, reader)
+        self.agree(|| format!("path of directory {index}"), library, reader)?;
+        let call = || format!("safe directory {index}");
+        let place = reader::directory(&self.copy, index).place;
+        self.agree(call, self.safe_directory(index), part(&reader, place))?;
+        Ok(reader)
+    }
+
+    /// Where the path given lies in the lent buffer: a copy of it shows.
+    fn safe_directory(&self, index: usize) -> Result<(usize, usize), Refusal> {
+        let path = icon_cache::directory(self.lent, index)?;
+        let start = (path.as_ptr() as usize).wrapping_sub(self.lent.as_ptr() as usize);
+        Ok((start, path.len()))
     }
 
     /// The answers are equal, and the call left the buffer as it was.
@@ -100,7 +124,7 @@ impl<'a> Pair<'a> {
         call: impl Fn() -> String,
         library: T,
         reader: T,
-    ) -> Result<T, Difference> {
+    ) -> Result<(), Difference> {
         if library != reader {
             return Err(Difference {
                 call: call(),
@@ -115,7 +139,52 @@ impl<'a> Pair<'a> {
                 reader: "left it as it was".into(),
             });
         }
-        Ok(reader)
+        Ok(())
+    }
+}
+
+/// What the safe check has to give.
+fn checked(answer: &reader::Check) -> Result<Checked, Refusal> {
+    let opened = answer.opened;
+    refused(answer.number, answer.place, opened)?;
+    Ok(Checked {
+        directories: answer.directories,
+        icons: answer.icons,
+        opened,
+    })
+}
+
+/// What the safe lookup has to give.
+fn found(answer: &reader::Lookup, words: &[u32]) -> Result<Found, Refusal> {
+    let opened = answer.opened;
+    refused(answer.number, answer.place, opened)?;
+    let words = words[..2 * answer.images].chunks_exact(2);
+    let images = words.map(|image| Image {
+        directory: (image[0] / 65_536) as u16,
+        flags: (image[0] % 65_536) as u16,
+        data_offset: image[1],
+    });
+    Ok(Found {
+        record: answer.place,
+        images: images.collect(),
+        opened,
+    })
+}
+
+/// What the safe directory call has to give, as a part of the buffer.
+fn part(answer: &reader::Path, place: usize) -> Result<(usize, usize), Refusal> {
+    refused(answer.number, place, 0)?;
+    Ok((answer.start, answer.length))
+}
+
+fn refused(number: u32, place: usize, opened: usize) -> Result<(), Refusal> {
+    match number {
+        0 => Ok(()),
+        number => Err(Refusal {
+            number,
+            place,
+            opened,
+        }),
     }
 }
 
