@@ -1,37 +1,41 @@
 //! Caches of real icon themes: the check, each name and each directory.
+//!
+//! Their sizes are known, so that a walk over fewer icons does not pass.
 
 mod reader;
 mod side_by_side;
 
-use icon_cache::{check, directory, lookup};
+use icon_cache::{check, directory, lookup, Checked};
 use side_by_side::Pair;
 
 #[test]
 fn hicolor() {
-    walk(include_bytes!("data/hicolor.cache"));
+    walk(include_bytes!("data/hicolor.cache"), 2, 5);
 }
 
 #[test]
 fn tango() {
-    walk(include_bytes!("data/Tango.cache"));
+    walk(include_bytes!("data/Tango.cache"), 849, 48);
 }
 
-fn walk(cache: &[u8]) {
+fn walk(cache: &[u8], icons: usize, directories: usize) {
+    let expected = Checked {
+        directories,
+        icons,
+        opened: icons,
+    };
+    assert_eq!(check(cache), Ok(expected));
     let pair = Pair::new(cache);
-    let checked = pair.check().unwrap();
-    assert_eq!(checked.number, 0);
-    assert_eq!(check(cache).unwrap().icons, checked.icons);
+    assert_eq!(pair.check().unwrap().number, 0);
 
     let names = reader::names(cache);
-    assert_eq!(names.len(), checked.icons);
+    assert_eq!(names.len(), icons);
     for name in names {
         ask_name(&pair, cache, name);
     }
-    let (directories, buckets) = reader::sizes(cache).unwrap();
-    println!(
-        "{} icons in {buckets} buckets, {directories} directories",
-        checked.icons
-    );
+    let (listed, buckets) = reader::sizes(cache).unwrap();
+    assert_eq!(listed, directories);
+    println!("{icons} icons in {buckets} buckets, {directories} directories");
     for index in 0..directories {
         ask_directory(&pair, cache, index);
     }
