@@ -5,7 +5,7 @@
 mod reader;
 mod side_by_side;
 
-use icon_cache::{check, directory, lookup, Checked};
+use icon_cache::{check, lookup, Checked};
 use side_by_side::Pair;
 
 #[test]
@@ -31,7 +31,7 @@ fn walk(cache: &[u8], icons: usize, directories: usize) {
     let names = reader::names(cache);
     assert_eq!(names.len(), icons);
     for name in names {
-        ask_name(&pair, cache, name);
+        ask_name(&pair, name);
     }
     let (listed, buckets) = reader::sizes(cache).unwrap();
     assert_eq!(listed, directories);
@@ -42,19 +42,12 @@ fn walk(cache: &[u8], icons: usize, directories: usize) {
     assert_eq!(pair.directory(directories).unwrap().number, 15);
 }
 
-fn ask_name(pair: &Pair, cache: &[u8], name: &[u8]) {
+/// The pair compares the safe answers too.
+fn ask_name(pair: &Pair, name: &[u8]) {
     let need = 2 * pair.lookup(name, 0).unwrap().0.images;
-    let (found, words) = pair.lookup(name, need + 2).unwrap();
+    let (found, _) = pair.lookup(name, need + 2).unwrap();
     assert_eq!(found.number, 0);
     assert_eq!(pair.lookup(name, need).unwrap().0, found);
-
-    let safe = lookup(cache, name).unwrap();
-    assert_eq!((safe.record, safe.opened), (found.place, found.opened));
-    let safe_words = safe.images.iter().flat_map(|image| {
-        let first = u32::from(image.directory) << 16 | u32::from(image.flags);
-        [first, image.data_offset]
-    });
-    assert!(safe_words.eq(words[..need].iter().copied()));
 
     // The name with a byte more is another one.
     let longer = [name, b"~"].concat();
@@ -64,8 +57,7 @@ fn ask_name(pair: &Pair, cache: &[u8], name: &[u8]) {
 fn ask_directory(pair: &Pair, cache: &[u8], index: usize) {
     assert_eq!(pair.directory(index).unwrap().number, 0);
     let path = pair.directory_path(index).unwrap();
-    let bytes = &cache[path.start..][..path.length];
-    assert_eq!(directory(cache, index).unwrap(), bytes);
+    assert_eq!(path.number, 0);
     assert_eq!(cache[path.start + path.length], 0);
 }
 
