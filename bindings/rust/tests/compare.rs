@@ -19,6 +19,7 @@ use std::thread;
 use std::time::Instant;
 
 const SEED: u64 = 20_260_101;
+
 /// How many different buffers there are at least.
 const BUFFERS: u64 = 1_000_000;
 
@@ -146,8 +147,8 @@ impl<'a> Comparison<'a> {
         }
     }
 
-    /// One sound cache, some damages at random, and now and then all damages
-    /// on purpose.
+    /// One sound cache, some damages at random, and now and then those on
+    /// purpose.
     fn run_round(&mut self, on_purpose: bool) {
         let sound = Sound::make(&mut self.random);
         demand_sound(&sound);
