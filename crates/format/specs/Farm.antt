@@ -6,7 +6,7 @@ use lib.ListN.{length, take, drop, replicate}
 use lib.Dec.{T, eqb}
 use Rattle.format.specs.Number.{be}
 use Rattle.format.specs.Fault.{_orElse_}
-use Rattle.format.specs.Text.{string, text, isWhole, sameBytes, hashFrom, hash, allowed}
+use Rattle.format.specs.Text.{string, text, isWhole, sameBytes, signed, hashFrom, hashNumbers, hash, allowed}
 use Rattle.format.specs.Header.{headerFault, pathFault, pathsFault, tablesFault}
 use Rattle.format.specs.Record.{imagesFault, nameFault, listFault, recordFault, imageWords}
 use Rattle.format.specs.Chain.{walk}
@@ -102,5 +102,5 @@ examples =
     []
 
 examples-hold : T (all examples)
-unfolding all holds examples lent looped patched farm cow oat pig ewe sameCheck sameLookup sameDirectory check checkBuckets queryFault lookup lookupEnds metAnswer answerWords directoryFault directory directoryPath walk recordFault nameFault listFault imagesFault imageWords headerFault pathFault pathsFault tablesFault _orElse_ text string isWhole sameBytes hashFrom hash allowed be
+unfolding all holds examples lent looped patched farm cow oat pig ewe sameCheck sameLookup sameDirectory check checkBuckets queryFault lookup lookupEnds metAnswer answerWords directoryFault directory directoryPath walk recordFault nameFault listFault imagesFault imageWords headerFault pathFault pathsFault tablesFault _orElse_ text string isWhole sameBytes signed hashFrom hashNumbers hash allowed be
 examples-hold = tt

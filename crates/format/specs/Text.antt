@@ -1,6 +1,6 @@
 -- Strings, and the hash of a name. A string is given by the part of the buffer from its offset on.
-use Prim.Native.Nat.{ℕ, zero, suc, _+_, _*_, _%_, _^_}
-use mathlib.Core.List.{List, [], _∷_}
+use Prim.Native.Nat.{ℕ, zero, suc, _+_, _-_, _*_, _%_, _^_}
+use mathlib.Core.List.{List, [], _∷_, map}
 use mathlib.Core.Bool.{Bool, true, false, _&&_}
 use lib.ListN.{length}
 use lib.Dec.{ltb, leb, eqb}
@@ -34,15 +34,23 @@ sameBytes [] (b ∷ t) = false
 sameBytes (a ∷ s) [] = false
 sameBytes (a ∷ s) (b ∷ t) = eqb a b && sameBytes s t
 
--- the hash after the bytes that are left: 31 times the hash so far plus the byte, modulo 2^32
+-- a byte as a signed number, modulo 2^32: 128 to 255 count as -128 to -1
+unfoldable pub signed : ℕ → ℕ
+signed b = if ltb b 128 then b else 2 ^ 32 + b - 256
+
+-- the hash after the numbers that are left: 31 times the hash so far plus the number, modulo 2^32
 unfoldable pub hashFrom : ℕ → List ℕ → ℕ
 hashFrom h [] = h
-hashFrom h (b ∷ t) = hashFrom ((31 * h + b) % 2 ^ 32) t
+hashFrom h (n ∷ t) = hashFrom ((31 * h + n) % 2 ^ 32) t
 
--- the hash of a name: the first byte, then one step for each later one
+-- the hash of numbers: the first, then one step for each later one
+unfoldable pub hashNumbers : List ℕ → ℕ
+hashNumbers [] = 0
+hashNumbers (n ∷ t) = hashFrom n t
+
+-- the hash of a name: that of its bytes as signed numbers, as in the caches in circulation
 unfoldable pub hash : List ℕ → ℕ
-hash [] = 0
-hash (b ∷ t) = hashFrom b t
+hash name = hashNumbers (map signed name)
 
 -- a name that may be asked for has 1 to 255 bytes, none of them zero
 unfoldable pub allowed : List ℕ → Bool

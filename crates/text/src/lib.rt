@@ -4,8 +4,9 @@ ghost use mathlib.Core.Path.{_≡_};
 ghost use mathlib.Core.Bool.{_&&_};
 ghost use Prim.Native.Nat.{_*_, _%_, _^_, _≤_};
 ghost use lib.ListN.{length, take, drop};
-ghost use Rattle.format.specs.Text.{string, text, isWhole, sameBytes, hash, allowed};
+ghost use Rattle.format.specs.Text.{string, text, isWhole, sameBytes, signed, hash, allowed};
 use format::Text;
+use std::num::wrapping_add_u8;
 use std::num::wrapping_add_u32;
 use std::num::wrapping_sub_u32;
 
@@ -61,6 +62,15 @@ fn times31(h: u32) -> u32
     wrapping_sub_u32(times32, h)
 }
 
+// A byte as a signed number, modulo 2^32: moved up by 128, a byte from 128 on wraps round, and moved down again it ends below 0. The compiler
+// makes one sign extension of it.
+fn signed(byte: u8) -> u32
+    ensures { λ r. ⌜ r ≡ signed byte ⌝ }
+{
+    let raised = wrapping_add_u8(byte, 128) as u32;
+    wrapping_sub_u32(raised, 128)
+}
+
 // What the string at the front of `part` is as a name, and its hash. One loop serves both: most of a lookup is the reading of the names that it
 // passes. No more than 256 bytes are read.
 pub fn read_name(part: &[u8]) -> Name
@@ -70,7 +80,7 @@ pub fn read_name(part: &[u8]) -> Name
     let mut hash = 0;
     let mut i = 0;
     while i < part.len() {
-        let byte = part[i] as u32;
+        let byte = part[i];
         if byte == 0 {
             let text = if i == 0 { Text::Empty } else { Text::Whole(i) };
             return Name { text, hash };
@@ -81,7 +91,7 @@ pub fn read_name(part: &[u8]) -> Name
                 hash,
             };
         }
-        hash = wrapping_add_u32(times31(hash), byte);
+        hash = wrapping_add_u32(times31(hash), signed(byte));
         i += 1;
     }
     Name {

@@ -1,4 +1,4 @@
-//! A second reader of icon theme caches, written from the paper alone.
+//! A second reader of icon theme caches, written from the papers alone.
 //!
 //! It goes another way than the library. It collects a whole chain first and
 //! remembers each offset on it; a chain that comes back to one of them never
@@ -81,9 +81,14 @@ fn string(cache: &[u8], offset: usize, longest: usize) -> Option<&[u8]> {
     (1..=longest).contains(&length).then(|| &rest[..length])
 }
 
+/// Each byte is a signed number: 128 to 255 count as -128 to -1.
 pub fn hash(name: &[u8]) -> u32 {
-    let bytes = name.iter().map(|&byte| u64::from(byte));
-    let hash = bytes.reduce(|h, byte| (31 * h + byte) % (1 << 32));
+    let modulus = 1 << 32;
+    let bytes = name.iter().map(|&byte| match u64::from(byte) {
+        high @ 128.. => modulus + high - 256,
+        low => low,
+    });
+    let hash = bytes.reduce(|h, byte| (31 * h + byte) % modulus);
     hash.expect("a name is not empty") as u32
 }
 

@@ -1,29 +1,84 @@
--- The hash of the first bytes of a name, what one byte more makes of it, and the bucket that it gives.
-use Prim.Native.Nat.{ℕ, zero, suc, _+_, _*_, _%_, _^_, _<_}
-use mathlib.Core.Path.{_≡_, refl, ap}
-use mathlib.Core.List.{List, [], _∷_}
-use mathlib.Core.Bool.{true}
+-- What a byte counts as, the hash of the first bytes of a name and what one byte more makes of it, and the bucket that it gives.
+use Prim.Native.Nat.{ℕ, zero, suc, _+_, _-_, _*_, _%_, _^_, _<_}
+use mathlib.Core.Path.{_≡_, refl, sym, ap, _∙_}
+use mathlib.Core.List.{List, [], _∷_, map}
+use mathlib.Core.Bool.{Bool, true, false, _&&_}
 use native.Mathlib.Numerals.{add-one}
 use native.Mathlib.Omega.{arith}
-use lib.ListN.{length, take, getD}
+use borrow.Author.Tests.{lt-ltb, ltb-true, ltb-false}
+use lib.ListN.{length, take, getD, length-map, List·getD-map}
 use lib.Seq.{take-all}
-use Rattle.format.specs.Text.{string, hashFrom, hash, allowed}
+use lib.Dec.{T, ltb, eqb}
+use Rattle.format.specs.Choice.{if_then_else_}
+use Rattle.format.specs.Text.{string, signed, hashFrom, hashNumbers, hash, allowed}
 use Rattle.format.specs.Header.{buckets}
 use Rattle.format.specs.Record.{bucketOf}
 use Rattle.format.specs.Laws.Strings.{allowed-string, allowed-short}
 
+-- the examples of request 1: the two bytes of é, and the first of them alone
+accented : T (eqb (hash (0xC3 ∷ 0xA9 ∷ [])) 4294965318 && eqb (hash (0xC3 ∷ [])) 4294967235)
+unfolding hash hashNumbers hashFrom signed
+accented = tt
+
+signed-low : (b : ℕ) → b < 128 → signed b ≡ b
+unfolding signed
+signed-low b l = rw (lt-ltb b 128 l)
+
+-- raised by 128, the signed number is the byte raised by 128 and wrapped
+pub signed-raised : (b : ℕ) → b < 256 → (signed b < 2 ^ 32) × ((signed b + 128) % 2 ^ 32 ≡ (b + 128) % 2 ^ 8)
+unfolding signed
+signed-raised b l = go (ltb b 128) refl
+  where
+    go : (t : Bool) → ltb b 128 ≡ t → let n = if t then b else 2 ^ 32 + b - 256 in (n < 2 ^ 32) × ((n + 128) % 2 ^ 32 ≡ (b + 128) % 2 ^ 8)
+    go true e = let low = ltb-true b 128 e in (omega arith, omega arith)
+    go false e = let high = ltb-false b 128 e in (omega arith, omega arith)
+
+-- each byte is below 128
+abbrev pub Ascii : List ℕ → Type 0
+Ascii name = (i : ℕ) → i < length name → getD name i 0 < 128
+
+map-ascii : (name : List ℕ) → Ascii name → map signed name ≡ name
+map-ascii [] low = refl
+map-ascii (b ∷ t) low = cc (signed-low b (low 0 (omega arith)), map-ascii t (λ i l. low (suc i) (omega arith)))
+
+-- such a name has the hash that it had before request 1, when each byte counted as it stands
+pub ascii-hash : (name : List ℕ) → Ascii name → hash name ≡ hashNumbers name
+unfolding hash
+ascii-hash name low = ap hashNumbers (map-ascii name low)
+
 from-one-more : (h : ℕ) (t : List ℕ) (i : ℕ) → i < length t → hashFrom h (take (i + 1) t) ≡ (31 * hashFrom h (take i t) + getD t i 0) % 2 ^ 32
 unfolding hashFrom
 from-one-more h [] i l = absurd (omega arith)
-from-one-more h (b ∷ t) zero l = refl
-from-one-more h (b ∷ t) (suc i) l = rw add-one (rw add-one at (from-one-more ((31 * h + b) % 2 ^ 32) t i (omega arith)))
+from-one-more h (n ∷ t) zero l = refl
+from-one-more h (n ∷ t) (suc i) l = rw add-one (rw add-one at (from-one-more ((31 * h + n) % 2 ^ 32) t i (omega arith)))
 
--- the first byte is the hash of itself, so it has to be below the modulus
-pub hash-one-more : (t : List ℕ) (i : ℕ) → i < length t → getD t i 0 < 2 ^ 32 → hash (take (i + 1) t) ≡ (31 * hash (take i t) + getD t i 0) % 2 ^ 32
-unfolding hash hashFrom
-hash-one-more [] i l small = absurd (omega arith)
-hash-one-more (b ∷ t) zero l small = let itself : b ≡ (31 * 0 + b) % 2 ^ 32 = omega arith in itself
-hash-one-more (b ∷ t) (suc i) l small = rw add-one (rw add-one at (from-one-more b t i (omega arith)))
+-- the first number is the hash of itself, so it has to be below the modulus
+numbers-one-more : (t : List ℕ) (i : ℕ) → i < length t → getD t i 0 < 2 ^ 32
+    → hashNumbers (take (i + 1) t) ≡ (31 * hashNumbers (take i t) + getD t i 0) % 2 ^ 32
+unfolding hashNumbers hashFrom
+numbers-one-more [] i l small = absurd (omega arith)
+numbers-one-more (n ∷ t) zero l small = let itself : n ≡ (31 * 0 + n) % 2 ^ 32 = omega arith in itself
+numbers-one-more (n ∷ t) (suc i) l small = rw add-one (rw add-one at (from-one-more n t i (omega arith)))
+
+map-take : (i : ℕ) (t : List ℕ) → map signed (take i t) ≡ take i (map signed t)
+map-take zero t = refl
+map-take (suc i) [] = refl
+map-take (suc i) (b ∷ t) = ap (λ s. signed b ∷ s) (map-take i t)
+
+signed-at : (t : List ℕ) (i : ℕ) → getD (map signed t) i 0 ≡ signed (getD t i 0)
+unfolding signed
+signed-at t i = List·getD-map signed t i 0
+
+pub hash-none : hash [] ≡ 0
+unfolding hash hashNumbers
+hash-none = refl
+
+pub hash-one-more : (t : List ℕ) (i : ℕ) → i < length t → getD t i 0 < 256 → hash (take (i + 1) t) ≡ (31 * hash (take i t) + signed (getD t i 0)) % 2 ^ 32
+unfolding hash
+hash-one-more t i l small =
+    let byte = signed-at t i in
+    let step = numbers-one-more (map signed t) i (omega (arith, length-map t signed)) (omega (arith, byte, signed-raised (getD t i 0) small .0)) in
+    rw (map-take (i + 1) t, map-take i t) (step ∙ ap (λ n. (31 * hashNumbers (take i (map signed t)) + n) % 2 ^ 32) byte)
 
 -- a name that may be asked for is hashed whole: no zero byte cuts it, and it is not too long
 pub allowed-hash : (name : List ℕ) → allowed name ≡ true → hash (take 255 (string name)) ≡ hash name

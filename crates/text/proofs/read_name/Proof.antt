@@ -1,5 +1,6 @@
 -- `text::read_name` meets its contract. The bytes of the string are passed one by one (`Passed`), so at each `return` its length is known, and the
--- hash so far is that of the bytes passed. Rests on `passed-stops`, `passed-ends`, `passed-next` and `passed-below`, `judgement` for the answer, `string-read`, `string-filled` and `hash-one-more` for the hash, and on what `times31` ensures.
+-- hash so far is that of the bytes passed. Rests on `passed-stops`, `passed-ends`, `passed-next` and `passed-below`, `judgement` for the answer,
+-- `string-read`, `string-filled`, `hash-none` and `hash-one-more` for the hash, and on what `times31` and `signed` ensure.
 use Prim.Native.Nat.{ℕ, _+_, _-_, _*_, _%_, _^_, _≤_, _<_}
 use mathlib.Core.Path.{_≡_, refl, sym, ap, _∙_}
 use mathlib.Core.List.{List}
@@ -7,16 +8,16 @@ use native.Mathlib.Nat.{mod-add-mod}
 use native.Mathlib.Omega.{arith}
 use borrow.Author.Needs.{needs}
 use lib.ListN.{length, take, getD}
-use Rattle.format.specs.Text.{string, hash}
+use Rattle.format.specs.Text.{string, signed, hash}
 use Rattle.format.specs.Laws.Strings.{Passed, passed-stops, passed-ends, passed-next, passed-below, string-read, string-filled, judgement, long, cut, empty, whole}
-use Rattle.format.specs.Laws.Hashes.{hash-one-more}
+use Rattle.format.specs.Laws.Hashes.{hash-none, hash-one-more}
 use Rattle.text.proofs.read_name.Statement.{statement}
 use Rattle.text.proofs.read_name.Tie as tie
 
--- `wrapped` is the multiple and `next` the hash after one more byte
-one-byte : (t : List ℕ) (i : ℕ) {h wrapped next : ℕ} → i < length t → getD t i 0 < 2 ^ 32 → h ≡ hash (take i t) → wrapped ≡ (31 * h) % 2 ^ 32
-    → next ≡ (wrapped + getD t i 0) % 2 ^ 32 → next ≡ hash (take (i + 1) t)
-one-byte t i l small e m n = n ∙ rw (m, mod-add-mod, e) (sym (hash-one-more t i l small))
+-- `wrapped` is the multiple, `value` what the byte counts as, and `next` the hash after it
+one-byte : (t : List ℕ) (i : ℕ) {h wrapped value next : ℕ} → i < length t → getD t i 0 < 256 → h ≡ hash (take i t) → wrapped ≡ (31 * h) % 2 ^ 32
+    → value ≡ signed (getD t i 0) → next ≡ (wrapped + value) % 2 ^ 32 → next ≡ hash (take (i + 1) t)
+one-byte t i l small e m v n = n ∙ rw (m, v, mod-add-mod, e) (sym (hash-one-more t i l small))
 
 -- where the string ends after i bytes, and where it goes on beyond the limit
 hash-of-all : (t : List ℕ) (i : ℕ) {h : ℕ} → i ≤ 255 → length (string t) ≡ i → h ≡ hash (take i t) → h ≡ hash (take 255 (string t))
@@ -33,14 +34,10 @@ abbrev μ-loop : tie.MeasureT-loop
 μ-loop part hash₀ i₀ h i = length part - i
 
 loop-holds : tie.Need-loop-holds Inv-loop μ-loop
-unfolding hash
-loop-holds c = (omega arith, omega arith, omega arith, refl)
+loop-holds c = (omega arith, omega arith, omega arith, sym hash-none)
 
 shared-slice-read-byte : tie.Need-shared-slice-read-byte Inv-loop μ-loop
 shared-slice-read-byte c = search needs
-
-cast-byte : tie.Need-cast-byte Inv-loop μ-loop
-cast-byte c = omega (arith, c .shared-slice-known2 .given (c .before .before .loop .i))
 
 returns : tie.Need-returns Inv-loop μ-loop
 returns c =
@@ -68,6 +65,9 @@ returns-3 c =
 times31-requires : tie.Need-times31-requires Inv-loop μ-loop
 times31-requires c κs = search needs
 
+signed-requires : tie.Need-signed-requires Inv-loop μ-loop
+signed-requires c κs = search needs
+
 wrapping-add-u32-requires : tie.Need-wrapping-add-u32-requires Inv-loop μ-loop
 wrapping-add-u32-requires c κs = search needs
 
@@ -79,14 +79,15 @@ loop-less c = search needs
 
 loop-again : tie.Need-loop-again Inv-loop μ-loop
 loop-again c =
-    let l = c .before .before .before .before .before .before in
+    let multiple = c .before .before in
+    let tested = multiple .before .before in
+    let l = tested .before .before .before in
     let t = l .before .before .args .part .now in
-    let read = c .before .before .before .before in
-    let small : getD t (l .loop .i) 0 < 2 ^ 32 = omega (arith, read .shared-slice-known2 .given (l .loop .i)) in (
+    let small : getD t (l .loop .i) 0 < 256 = omega (arith, tested .before .shared-slice-known2 .given (l .loop .i)) in (
       omega arith,
       omega arith,
-      passed-next t (l .loop .i) (l .loop .inv .2) (c .before .before .before .if1 .left),
-      one-byte t (l .loop .i) (omega arith) small (l .loop .inv .3) (c .before .times31 .ensures) (c .wrapping-add-u32 .ensures),
+      passed-next t (l .loop .i) (l .loop .inv .2) (tested .if1 .left),
+      one-byte t (l .loop .i) (omega arith) small (l .loop .inv .3) (multiple .times31 .ensures) (c .before .signed .ensures) (c .wrapping-add-u32 .ensures),
     )
 
 returns-4 : tie.Need-returns-4 Inv-loop μ-loop
@@ -104,11 +105,11 @@ read-name-spec =
     μ-loop
     loop-holds
     shared-slice-read-byte
-    cast-byte
     returns
     returns-2
     returns-3
     times31-requires
+    signed-requires
     wrapping-add-u32-requires
     add-i
     loop-less
