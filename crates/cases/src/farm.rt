@@ -37,13 +37,17 @@ fn put_strings(cache: &mut [u8]) {
     build::put_string(cache, 122, b"cow");
 }
 
+pub fn put(cache: &mut [u8]) {
+    put_tables(cache);
+    put_icons(cache);
+    put_strings(cache);
+}
+
 pub fn cache() -> [u8; 126]
     ensures { λ r. ⌜ 126 ≡ length r ⌝ }
 {
     let mut cache = [0u8; 126];
-    put_tables(&mut cache);
-    put_icons(&mut cache);
-    put_strings(&mut cache);
+    put(&mut cache);
     cache
 }
 
