@@ -51,6 +51,8 @@ uint32_t icon_cache_check(const uint8_t *cache, size_t cache_len,
  * beyond are as they were. With any other number all words are as they were. With 14, *images says how many images there are: lend
  * 2 * *images words. With any number but 0 and 14, *images is 0.
  *
+ * Names are compared byte for byte: two ways to write an accented letter in Unicode are two names.
+ *
  * The flags are named as the layout's document numbers them. Some generators, GTK's among them, write another numbering under the same
  * version (XPM suffix 1, SVG suffix 2, bitmap suffix 4), so the names may be wrong for their caches.
  *

@@ -130,7 +130,8 @@ pub fn check(cache: &[u8]) -> Result<Checked, Refusal> {
 }
 
 /// Looks up one icon name. Only the records that it meets are judged, so a name
-/// may be found in a cache that [`check`] refuses.
+/// may be found in a cache that [`check`] refuses. Names are compared byte for
+/// byte: two ways to write an accented letter in Unicode are two names.
 ///
 /// An endless chain costs it even more time than it costs [`check`], tens of
 /// seconds at 16 MiB and less than a second at 256 KiB: where somebody waits, do

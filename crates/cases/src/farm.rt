@@ -37,6 +37,7 @@ fn put_strings(cache: &mut [u8]) {
     build::put_string(cache, 122, b"cow");
 }
 
+// All rows, into a buffer that may be longer.
 pub fn put(cache: &mut [u8]) {
     put_tables(cache);
     put_icons(cache);

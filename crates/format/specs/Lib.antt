@@ -1,4 +1,4 @@
--- Documents 000 and 01 as definitions: what a reader of the contracts has to believe.
+-- Documents 000 and 01, and the requests of document 02 that have landed, as definitions: what a reader of the contracts has to believe.
 pub mod Choice
 pub mod Number
 pub mod Fault

@@ -34,7 +34,7 @@ sameBytes [] (b ∷ t) = false
 sameBytes (a ∷ s) [] = false
 sameBytes (a ∷ s) (b ∷ t) = eqb a b && sameBytes s t
 
--- a byte as a signed number, modulo 2^32: 128 to 255 count as -128 to -1
+-- a byte as a signed number, modulo 2^32: 128 to 255 count as -128 to -1 (request 1; in document 01 bytes count as 0 to 255)
 unfoldable pub signed : ℕ → ℕ
 signed b = if ltb b 128 then b else 2 ^ 32 + b - 256
 
@@ -43,12 +43,12 @@ unfoldable pub hashFrom : ℕ → List ℕ → ℕ
 hashFrom h [] = h
 hashFrom h (n ∷ t) = hashFrom ((31 * h + n) % 2 ^ 32) t
 
--- the hash of numbers: the first, then one step for each later one
+-- document 01's hash, of any numbers: the first, then one step for each later one
 unfoldable pub hashNumbers : List ℕ → ℕ
 hashNumbers [] = 0
 hashNumbers (n ∷ t) = hashFrom n t
 
--- the hash of a name: that of its bytes as signed numbers, as in the caches in circulation
+-- the hash of a name: that of its bytes as signed numbers
 unfoldable pub hash : List ℕ → ℕ
 hash name = hashNumbers (map signed name)
 

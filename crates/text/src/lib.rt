@@ -62,8 +62,8 @@ fn times31(h: u32) -> u32
     wrapping_sub_u32(times32, h)
 }
 
-// A byte as a signed number, modulo 2^32: moved up by 128, a byte from 128 on wraps round, and moved down again it ends below 0. The compiler
-// makes one sign extension of it.
+// A byte as a signed number, modulo 2^32. 128 is added within 8 bits, where a byte from 128 on wraps, and taken away within 32 bits, where such a
+// byte then wraps below 0. The compiler makes one sign extension of it.
 fn signed(byte: u8) -> u32
     ensures { λ r. ⌜ r ≡ signed byte ⌝ }
 {

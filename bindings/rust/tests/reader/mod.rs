@@ -84,12 +84,10 @@ fn string(cache: &[u8], offset: usize, longest: usize) -> Option<&[u8]> {
 /// Each byte is a signed number: 128 to 255 count as -128 to -1.
 pub fn hash(name: &[u8]) -> u32 {
     let modulus = 1 << 32;
-    let bytes = name.iter().map(|&byte| match u64::from(byte) {
-        high @ 128.. => modulus + high - 256,
-        low => low,
-    });
-    let hash = bytes.reduce(|h, byte| (31 * h + byte) % modulus);
-    hash.expect("a name is not empty") as u32
+    let bytes = name.iter().map(|&byte| i64::from(byte as i8));
+    let hash = bytes.reduce(|h, byte| (31 * h + byte).rem_euclid(modulus));
+    let hash = hash.expect("a name is not empty");
+    hash.rem_euclid(modulus) as u32
 }
 
 // The parts of a cache.

@@ -1,6 +1,6 @@
 -- What a byte counts as, the hash of the first bytes of a name and what one byte more makes of it, and the bucket that it gives.
 use Prim.Native.Nat.{ℕ, zero, suc, _+_, _-_, _*_, _%_, _^_, _<_}
-use mathlib.Core.Path.{_≡_, refl, sym, ap, _∙_}
+use mathlib.Core.Path.{_≡_, refl, ap, _∙_}
 use mathlib.Core.List.{List, [], _∷_, map}
 use mathlib.Core.Bool.{Bool, true, false, _&&_}
 use native.Mathlib.Numerals.{add-one}
@@ -15,8 +15,13 @@ use Rattle.format.specs.Header.{buckets}
 use Rattle.format.specs.Record.{bucketOf}
 use Rattle.format.specs.Laws.Strings.{allowed-string, allowed-short}
 
--- the examples of request 1: the two bytes of é, and the first of them alone
-accented : T (eqb (hash (0xC3 ∷ 0xA9 ∷ [])) 4294965318 && eqb (hash (0xC3 ∷ [])) 4294967235)
+-- 127 counts as 127, 128 as -128 and 255 as -1
+ends : T (eqb (signed 127) 127 && eqb (signed 128) (2 ^ 32 - 128) && eqb (signed 255) (2 ^ 32 - 1))
+unfolding signed
+ends = tt
+
+-- request 1's example: the two bytes of é, now and before, and the first of them alone
+accented : T (eqb (hash (0xC3 ∷ 0xA9 ∷ [])) 4294965318 && eqb (hashNumbers (0xC3 ∷ 0xA9 ∷ [])) 6214 && eqb (hash (0xC3 ∷ [])) 4294967235)
 unfolding hash hashNumbers hashFrom signed
 accented = tt
 
@@ -24,7 +29,7 @@ signed-low : (b : ℕ) → b < 128 → signed b ≡ b
 unfolding signed
 signed-low b l = rw (lt-ltb b 128 l)
 
--- raised by 128, the signed number is the byte raised by 128 and wrapped
+-- the signed number is below 2^32; raised by 128 and wrapped, it is the byte raised by 128 and wrapped
 pub signed-raised : (b : ℕ) → b < 256 → (signed b < 2 ^ 32) × ((signed b + 128) % 2 ^ 32 ≡ (b + 128) % 2 ^ 8)
 unfolding signed
 signed-raised b l = go (ltb b 128) refl
@@ -60,10 +65,10 @@ numbers-one-more [] i l small = absurd (omega arith)
 numbers-one-more (n ∷ t) zero l small = let itself : n ≡ (31 * 0 + n) % 2 ^ 32 = omega arith in itself
 numbers-one-more (n ∷ t) (suc i) l small = rw add-one (rw add-one at (from-one-more n t i (omega arith)))
 
-map-take : (i : ℕ) (t : List ℕ) → map signed (take i t) ≡ take i (map signed t)
-map-take zero t = refl
-map-take (suc i) [] = refl
-map-take (suc i) (b ∷ t) = ap (λ s. signed b ∷ s) (map-take i t)
+map-take : (f : ℕ → ℕ) (i : ℕ) (t : List ℕ) → map f (take i t) ≡ take i (map f t)
+map-take f zero t = refl
+map-take f (suc i) [] = refl
+map-take f (suc i) (b ∷ t) = ap (λ s. f b ∷ s) (map-take f i t)
 
 signed-at : (t : List ℕ) (i : ℕ) → getD (map signed t) i 0 ≡ signed (getD t i 0)
 unfolding signed
@@ -78,7 +83,7 @@ unfolding hash
 hash-one-more t i l small =
     let byte = signed-at t i in
     let step = numbers-one-more (map signed t) i (omega (arith, length-map t signed)) (omega (arith, byte, signed-raised (getD t i 0) small .0)) in
-    rw (map-take (i + 1) t, map-take i t) (step ∙ ap (λ n. (31 * hashNumbers (take i (map signed t)) + n) % 2 ^ 32) byte)
+    rw (map-take signed (i + 1) t, map-take signed i t) (step ∙ ap (λ n. (31 * hashNumbers (take i (map signed t)) + n) % 2 ^ 32) byte)
 
 -- a name that may be asked for is hashed whole: no zero byte cuts it, and it is not too long
 pub allowed-hash : (name : List ℕ) → allowed name ≡ true → hash (take 255 (string name)) ≡ hash name

@@ -2,7 +2,7 @@
 -- hash so far is that of the bytes passed. Rests on `passed-stops`, `passed-ends`, `passed-next` and `passed-below`, `judgement` for the answer,
 -- `string-read`, `string-filled`, `hash-none` and `hash-one-more` for the hash, and on what `times31` and `signed` ensure.
 use Prim.Native.Nat.{ℕ, _+_, _-_, _*_, _%_, _^_, _≤_, _<_}
-use mathlib.Core.Path.{_≡_, refl, sym, ap, _∙_}
+use mathlib.Core.Path.{_≡_, sym, ap, _∙_}
 use mathlib.Core.List.{List}
 use native.Mathlib.Nat.{mod-add-mod}
 use native.Mathlib.Omega.{arith}

@@ -1,4 +1,5 @@
--- `text::signed` meets its contract: what it answers and the signed number are the same when 128 is added to both. Rests on `signed-raised`.
+-- `text::signed` meets its contract: what it answers and the signed number are the same when 128 is added to both and
+-- wrapped. Rests on `signed-raised`.
 use Prim.Native.Nat.{ℕ, _+_, _%_, _^_, _<_}
 use mathlib.Core.Path.{_≡_, sym, _∙_}
 use native.Mathlib.Omega.{arith}
@@ -8,7 +9,7 @@ use Rattle.format.specs.Laws.Hashes.{signed-raised}
 use Rattle.text.proofs.signed.Statement.{statement}
 use Rattle.text.proofs.signed.Tie as tie
 
--- a number below 2^32 is known by what it is after 128 is added
+-- a number below 2^32 is known by what it is after 128 is added and wrapped
 lowered : (n r : ℕ) → n < 2 ^ 32 → r < 2 ^ 32 → (r + 128) % 2 ^ 32 ≡ (n + 128) % 2 ^ 32 → r ≡ n
 lowered n r l m e = omega arith
 

@@ -45,7 +45,8 @@ Shows the images of each icon: directory, flags and the offset of image data.
 Usage: icon-cache lookup FILE NAME...
 
 A NAME is that of the icon, without directory and suffix: folder-open. Names
-that begin with - are given after --.
+that begin with - are given after --. Names are compared byte for byte: two ways
+to write an accented letter in Unicode are two names.
 
 Flags are the sum of: bitmap suffix 1, XPM suffix 2, SVG suffix 4, icon file 8.
 Some generators mean XPM suffix by 1, SVG suffix by 2 and bitmap suffix by 4; a
