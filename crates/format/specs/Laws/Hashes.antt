@@ -20,7 +20,7 @@ ends : T (eqb (signed 127) 127 && eqb (signed 128) (2 ^ 32 - 128) && eqb (signed
 unfolding signed
 ends = tt
 
--- request 1's example: the two bytes of é, now and before, and the first of them alone
+-- request 1's example, the two bytes of é, now and before; and the first of them alone, which is signed too
 accented : T (eqb (hash (0xC3 ∷ 0xA9 ∷ [])) 4294965318 && eqb (hashNumbers (0xC3 ∷ 0xA9 ∷ [])) 6214 && eqb (hash (0xC3 ∷ [])) 4294967235)
 unfolding hash hashNumbers hashFrom signed
 accented = tt

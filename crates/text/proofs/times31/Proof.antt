@@ -1,18 +1,16 @@
 -- `text::times31` meets its contract. Five doublings make 32 times h, and taking h away makes 31. Rests on `doubled`, over any modulus, and on
--- `one-taken-away`.
-use Prim.Native.Nat.{ℕ, _+_, _*_, _%_, _^_, _<_}
+-- `taken-away`.
+use Prim.Native.Nat.{ℕ, _+_, _*_, _%_, _^_}
 use mathlib.Core.Path.{_≡_, sym, ap, _∙_}
 use native.Mathlib.Nat.{add-mod, add-mul, two-mul}
 use native.Mathlib.Omega.{arith}
 use borrow.Author.Needs.{needs}
+use Rattle.text.proofs.Wrapping.{taken-away}
 use Rattle.text.proofs.times31.Statement.{statement}
 use Rattle.text.proofs.times31.Tie as tie
 
 doubled : (m k h : ℕ) {x y : ℕ} → x ≡ (k * h) % m → y ≡ (x + x) % m → y ≡ ((k + k) * h) % m
 doubled m k h e f = f ∙ rw (e, add-mul) (sym (add-mod (k * h) (k * h) m))
-
-one-taken-away : (h r : ℕ) → r < 2 ^ 32 → (r + h) % 2 ^ 32 ≡ (32 * h) % 2 ^ 32 → r ≡ (31 * h) % 2 ^ 32
-one-taken-away h r l e = omega arith
 
 wrapping-add-u32-requires : tie.Need-wrapping-add-u32-requires
 wrapping-add-u32-requires c κs = search needs
@@ -45,7 +43,8 @@ returns c =
     let by8 = doubled (2 ^ 32) 4 h by4 (times8 .wrapping-add-u323 .ensures) in
     let by16 = doubled (2 ^ 32) 8 h by8 (times16 .wrapping-add-u324 .ensures) in
     let by32 = doubled (2 ^ 32) 16 h by16 (times32 .wrapping-add-u325 .ensures) in
-    one-taken-away h _ (c .wrapping-sub-u32 .ok) (c .wrapping-sub-u32 .ensures ∙ by32)
+    let one-more : (32 * h) % 2 ^ 32 ≡ (31 * h + h) % 2 ^ 32 = omega arith in
+    taken-away h (31 * h) (c .wrapping-sub-u32 .ok) (c .wrapping-sub-u32 .ensures ∙ by32 ∙ one-more)
 
 pub times31-spec : {M : Type 1} → statement M
 times31-spec =
