@@ -1,10 +1,11 @@
 // The walk along the chain of a bucket.
 ghost use mathlib.Core.Path.{_≡_};
-ghost use Prim.Native.Nat.{_≤_, _<_};
+ghost use Prim.Native.Nat.{_-_, _≤_, _<_};
 ghost use lib.ListN.{length};
-ghost use Rattle.format.specs.Header.{buckets};
+ghost use Rattle.format.specs.Header.{buckets, bucketField};
 ghost use Rattle.format.specs.Record.{bucketOf};
 ghost use Rattle.format.specs.Chain.{walkBucket};
+ghost use Rattle.format.specs.Chain as definition;
 ghost use Rattle.tables.specs.Tables.{Right};
 use bigendian::u32_at;
 use format::Ending;
@@ -15,16 +16,22 @@ use tables::Tables;
 use tables::bucket_field;
 
 // The walk of `bucket`'s chain for a record that bears `wanted`, which is empty or a name of this bucket: how it ends, and how many records the
-// call has opened then, `earlier` of them before it. No record that keeps rule 8 bears the empty name, so with that the walk goes on to the end.
-// A chain without an end is left once L - 10 records are opened, one more than chains that end can hold together. A name is compared before it
-// is judged: the wanted one keeps rules 8 and 9.
-pub fn walk(cache: &[u8], t: Tables, bucket: usize, wanted: &[u8], earlier: usize) -> Walk
+// call has opened then, `earlier` of them before it and at most `limit` in all. No record that keeps rule 8 bears the empty name, so with that
+// the walk goes on until the chain ends or no more records may be opened. A name is compared before it is judged: the wanted one keeps rules 8
+// and 9.
+pub fn walk_within(
+    cache: &[u8],
+    t: Tables,
+    bucket: usize,
+    wanted: &[u8],
+    earlier: usize,
+    limit: usize,
+) -> Walk
     requires { ⌜ Right (now cache) t ⌝ }
     requires { ⌜ bucket < buckets (now cache) ⌝ }
     requires { ⌜ (length (now wanted) ≤ 255) × (0 < length (now wanted) → bucketOf (now cache) (now wanted) ≡ bucket) ⌝ }
-    ensures { λ r. ⌜ r ≡ walkBucket (now (cache .entry)) (now (wanted .entry)) bucket earlier ⌝ }
+    ensures { λ r. ⌜ r ≡ definition.walk (limit - earlier) (now (cache .entry)) (now (wanted .entry)) bucket (bucketField (now (cache .entry)) bucket) earlier ⌝ }
 {
-    let limit = cache.len() - 10;
     let mut field = bucket_field(t, bucket);
     let mut opened = earlier;
     while opened < limit {
@@ -60,7 +67,17 @@ pub fn walk(cache: &[u8], t: Tables, bucket: usize, wanted: &[u8], earlier: usiz
         field = record;
     }
     Walk {
-        ending: Ending::Endless,
+        ending: Ending::Stopped(field),
         opened,
     }
+}
+
+// The same walk where L - 10 records may be opened in all, one more than chains that end can hold together: a chain that it stops on never ends.
+pub fn walk(cache: &[u8], t: Tables, bucket: usize, wanted: &[u8], earlier: usize) -> Walk
+    requires { ⌜ Right (now cache) t ⌝ }
+    requires { ⌜ bucket < buckets (now cache) ⌝ }
+    requires { ⌜ (length (now wanted) ≤ 255) × (0 < length (now wanted) → bucketOf (now cache) (now wanted) ≡ bucket) ⌝ }
+    ensures { λ r. ⌜ r ≡ walkBucket (now (cache .entry)) (now (wanted .entry)) bucket earlier ⌝ }
+{
+    walk_within(cache, t, bucket, wanted, earlier, cache.len() - 10)
 }

@@ -14,7 +14,7 @@ use Rattle.format.specs.Chain.{walkBucket}
 use Rattle.format.specs.declared.Fault.{Fault}
 use Rattle.format.specs.declared.Walk.{Walk}
 use Rattle.format.specs.declared.Ending.{Ending}
-use Rattle.format.specs.declared.Ending.the-variants.{Ended, Met, Broken, Endless}
+use Rattle.format.specs.declared.Ending.the-variants.{Ended, Met, Broken, Stopped}
 use Rattle.format.specs.declared.CheckAnswer.{CheckAnswer}
 use Rattle.format.specs.declared.LookupAnswer.{LookupAnswer}
 use Rattle.format.specs.declared.DirectoryAnswer.{DirectoryAnswer}
@@ -41,7 +41,7 @@ checkBuckets (suc n) s k o =
       | Ended ↦ checkBuckets n s (suc k) (w .opened)
       | Met r ↦ checkBuckets n s (suc k) (w .opened)
       | Broken m p ↦ checked m p 0 0 (w .opened)
-      | Endless ↦ checked 12 (bucketField s k) 0 0 (w .opened)
+      | Stopped f ↦ checked 12 (bucketField s k) 0 0 (w .opened)
     ]
 
 -- the check: 1 to 6, then the chains of all buckets from 0 up; with a refusal directories and icons are 0
@@ -69,7 +69,7 @@ unfoldable pub lookupEnds : List ℕ → ℕ → ℕ → Ending → ℕ → Look
 lookupEnds s k room Ended o = lookedUp 30 0 0 o
 lookupEnds s k room (Met r) o = metAnswer s room r o
 lookupEnds s k room (Broken m p) o = lookedUp m p 0 o
-lookupEnds s k room Endless o = lookedUp 12 (bucketField s k) 0 o
+lookupEnds s k room (Stopped f) o = lookedUp 12 (bucketField s k) 0 o
 
 -- the lookup: 13, then 1 to 5, then the walk of the name's own bucket
 unfoldable pub lookup : List ℕ → List ℕ → ℕ → LookupAnswer

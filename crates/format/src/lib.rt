@@ -25,8 +25,8 @@ pub enum Ending {
     Met(usize),
     // A record breaks a rule: the rule's number and its place.
     Broken(u32, usize),
-    // L - 10 records opened in the call, one more than chains that end can hold together.
-    Endless,
+    // As many records opened as may be: the last of them, or the bucket's field where none was.
+    Stopped(usize),
 }
 
 pub struct Walk {

@@ -53,7 +53,7 @@ fn check_buckets(cache: &[u8], t: Tables) -> CheckAnswer
                     opened,
                 };
             }
-            Ending::Endless => {
+            Ending::Stopped(_) => {
                 let place = tables::bucket_field(t, k);
                 return CheckAnswer {
                     number: 12,
@@ -154,7 +154,7 @@ pub fn lookup(cache: &[u8], name: &[u8], words: &mut [u32]) -> LookupAnswer
     match ending {
         Ending::Met(met) => found(cache, met, opened, words),
         Ending::Broken(number, place) => not_found(number, place, opened),
-        Ending::Endless => not_found(12, tables::bucket_field(t, bucket), opened),
+        Ending::Stopped(_) => not_found(12, tables::bucket_field(t, bucket), opened),
         Ending::Ended => not_found(30, 0, opened),
     }
 }

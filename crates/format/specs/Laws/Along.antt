@@ -14,7 +14,7 @@ use Rattle.format.specs.Record.{recordFault, nameOf}
 use Rattle.format.specs.Chain.{walk, walkEnds}
 use Rattle.format.specs.Words.{link, linkField, Inside, KeepsAt, KeepsBelow, NoneBelow, Holds, Breaks, itself}
 use Rattle.format.specs.declared.Fault.{Fault}
-use Rattle.format.specs.declared.Ending.the-variants.{Ended, Met, Broken, Endless}
+use Rattle.format.specs.declared.Ending.the-variants.{Ended, Met, Broken, Stopped}
 use Rattle.format.specs.Laws.Faults.{same-number}
 use Rattle.format.specs.Laws.Rules.{record-number}
 use Rattle.format.specs.Laws.Links.{broken-inside, broken-outside}
@@ -77,6 +77,6 @@ module _ (s name : List ℕ) (k o : ℕ) where
             rw (ne-eqb x 7 (λ z. omega (arith, above inn)))
             (walk-broken s name k m (linkField s k n) (o + n) real (rw reads-link inn) q ∙ rw (reads-link, e))
 
-  pub walk-lasts : (N : ℕ) → KeepsBelow s k N → NoneBelow s name k N → walk N s name k (bucketField s k) o ≡ walkEnds Endless (o + N)
+  pub walk-lasts : (N : ℕ) → KeepsBelow s k N → NoneBelow s name k N → walk N s name k (bucketField s k) o ≡ walkEnds (Stopped (linkField s k N)) (o + N)
   unfolding walk
   walk-lasts N keeps none = walk-along N 0 {N = N} (omega arith) refl keeps none

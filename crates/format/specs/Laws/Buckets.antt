@@ -10,7 +10,7 @@ use Rattle.format.specs.Chain.{walkEnds, walkBucket}
 use Rattle.format.specs.Call.{check, checkBuckets, checked}
 use Rattle.format.specs.Words.{KeepsAt, KeepsBelow, NoneBelow, Holds, Breaks, Sound, HeldBefore, Lengths, sum, itself}
 use Rattle.format.specs.declared.Fault.{Fault}
-use Rattle.format.specs.declared.Ending.the-variants.{Ended, Met, Broken, Endless}
+use Rattle.format.specs.declared.Ending.the-variants.{Ended, Met, Broken, Stopped}
 use Rattle.format.specs.Laws.Faults.{kept-takes, broken-takes}
 use Rattle.format.specs.Laws.Links.{Repeat, once, never-breaks, keeps-named}
 use Rattle.format.specs.Laws.Apart.{Apart, visits, visits-length, apart-none, apart-length, apart-chain, apart-few}
@@ -30,7 +30,7 @@ module _ (s : List ℕ) (n k o : ℕ) {p : ℕ} where
   unfolding checkBuckets
   bucket-broken e = rw (checkBuckets, e) (rw e)
 
-  pub bucket-endless : walkBucket s [] k o ≡ walkEnds Endless p → checkBuckets (suc n) s k o ≡ checked 12 (bucketField s k) 0 0 p
+  pub bucket-endless : {f : ℕ} → walkBucket s [] k o ≡ walkEnds (Stopped f) p → checkBuckets (suc n) s k o ≡ checked 12 (bucketField s k) 0 0 p
   unfolding checkBuckets
   bucket-endless e = rw (checkBuckets, e) (rw e)
 

@@ -14,7 +14,7 @@ use Rattle.format.specs.Chain.{walkEnds, walkBucket}
 use Rattle.format.specs.Words.{link, linkField, Inside, Keeps, KeepsAt, KeepsBelow, NoneBelow, Holds, Breaks}
 use Rattle.format.specs.declared.Walk.{Walk}
 use Rattle.format.specs.declared.Ending.{Ending}
-use Rattle.format.specs.declared.Ending.the-variants.{Ended, Met, Broken, Endless}
+use Rattle.format.specs.declared.Ending.the-variants.{Ended, Met, Broken, Stopped}
 use Rattle.format.specs.Laws.Below.{below-suc}
 use Rattle.format.specs.Laws.Faults.{orElse-next, orElse-first}
 use Rattle.format.specs.Laws.Names.{equal-or-not}
@@ -78,7 +78,7 @@ abbrev pub Told : List ℕ → ℕ → Ending → Type 0
 Told s k Ended = Unit {0}
 Told s k (Met r) = Keeps s k r
 Told s k (Broken x p) = 0 < x
-Told s k Endless = Unit {0}
+Told s k (Stopped f) = Unit {0}
 
 module _ (s name : List ℕ) (k o : ℕ) where
   told : Course s name k (length s - 10 - o) → Told s k (walkBucket s name k o .ending)

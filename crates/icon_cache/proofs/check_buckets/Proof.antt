@@ -14,7 +14,7 @@ use Rattle.format.specs.Header.{buckets}
 use Rattle.format.specs.Chain.{walkEnds, walkBucket}
 use Rattle.format.specs.declared.Walk.{Walk}
 use Rattle.format.specs.declared.Ending.{Ending}
-use Rattle.format.specs.declared.Ending.the-variants.{Ended, Met, Broken, Endless}
+use Rattle.format.specs.declared.Ending.the-variants.{Ended, Met, Broken, Stopped}
 use Rattle.format.specs.Call.{checkBuckets}
 use Rattle.format.specs.Laws.Header.{header-right}
 use Rattle.format.specs.Laws.Buckets.{bucket-ended, bucket-met, bucket-broken, bucket-endless}
@@ -34,7 +34,7 @@ passed s n k o w p tag = rw add-one (go (w .ending) refl tag)
     go Ended q h = bucket-ended s n k o (ending-of p q)
     go (Met r) q h = bucket-met s n k o (ending-of p q)
     go (Broken x y) q h = absurd (⊎-elim (λ z. omega arith) (λ z. omega arith) h)
-    go Endless q h = absurd (⊎-elim (λ z. omega arith) (λ z. omega arith) h)
+    go (Stopped f) q h = absurd (⊎-elim (λ z. omega arith) (λ z. omega arith) h)
 
 abbrev Inv-loop : tie.InvT-loop
 Inv-loop cache t n k₀ opened₀ k opened = (k ≤ n) × (checkBuckets (n - k) cache k opened ≡ checkBuckets (buckets cache) cache 0 0)
