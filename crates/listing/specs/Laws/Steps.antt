@@ -1,0 +1,61 @@
+-- A step, one law for each way it can go.
+use Prim.Native.Nat.{ℕ, suc, _-_, _≤_, _<_}
+use mathlib.Core.Path.{_≡_, refl, sym, ap, _∙_}
+use mathlib.Core.List.{List, []}
+use mathlib.Core.Bool.{true, false, not, _&&_, and-eq-true-iff}
+use borrow.Author.Tests.{lt-ltb, le-ltb, le-leb, lt-leb, ltb-true, leb-true, not-false}
+use lib.ListN.{length}
+use lib.Dec.{ltb}
+use Rattle.format.specs.Fault.{fault, noFault, given}
+use Rattle.format.specs.Header.{headerFault, buckets, bucketField}
+use Rattle.format.specs.Chain.{walk}
+use Rattle.format.specs.declared.Fault.{Fault}
+use Rattle.format.specs.declared.Ending.the-variants.{Ended, Met, Broken, Stopped}
+use Rattle.format.specs.Laws.Faults.{orElse-first, orElse-next, orElse-none, given-none, kept-takes, broken-takes}
+use Rattle.listing.specs.Listing.{position, stepIs, positionRight, positionFault, onward, step}
+use Rattle.listing.specs.declared.Position.{Position}
+
+-- one bucket, by the ending of its walk
+module _ (s : List ℕ) (q : Position) (n k c : ℕ) where
+  pub onward-ended : walk (suc c) s [] k (bucketField s k) 0 .ending ≡ Ended → onward (suc n) s q k c ≡ onward n s q (suc k) 0
+  unfolding onward
+  onward-ended e = rw (onward, e)
+
+  pub onward-met : {r : ℕ} → walk (suc c) s [] k (bucketField s k) 0 .ending ≡ Met r → onward (suc n) s q k c ≡ onward n s q (suc k) 0
+  unfolding onward
+  onward-met e = rw (onward, e)
+
+  pub onward-broken : {x p : ℕ} → walk (suc c) s [] k (bucketField s k) 0 .ending ≡ Broken x p → onward (suc n) s q k c ≡ stepIs x p 0 q
+  unfolding onward
+  onward-broken e = rw (onward, e)
+
+  pub onward-stopped : {r : ℕ} → walk (suc c) s [] k (bucketField s k) 0 .ending ≡ Stopped r → onward (suc n) s q k c ≡ stepIs 0 0 r (position k (suc c))
+  unfolding onward
+  onward-stopped e = rw (onward, e)
+
+module _ (s : List ℕ) (q : Position) where
+  pub position-header : (headerFault s .number ≡ 0 → ⊥) → positionFault s q ≡ headerFault s
+  unfolding positionFault
+  position-header h = orElse-first _ _ h
+
+  -- under a sound header
+  module _ (h : headerFault s .number ≡ 0) where
+    pub position-no-bucket : buckets s ≤ q .bucket → positionFault s q ≡ fault 26 0
+    unfolding positionFault
+    position-no-bucket l = orElse-next _ _ h ∙ rw (le-ltb (q .bucket) (buckets s) l)
+
+    pub position-counts-too-far : q .bucket < buckets s → length s - 11 < q .count → positionFault s q ≡ fault 26 0
+    unfolding positionFault
+    position-counts-too-far l g = orElse-next _ _ h ∙ rw (lt-ltb (q .bucket) (buckets s) l, lt-leb (q .count) (length s - 11) g)
+
+    pub position-right : q .bucket < buckets s → q .count ≤ length s - 11 → positionFault s q ≡ noFault
+    unfolding positionFault
+    position-right l g = orElse-next _ _ h ∙ rw (lt-ltb (q .bucket) (buckets s) l, le-leb (q .count) (length s - 11) g)
+
+  pub step-refuses : {f : Fault} → positionFault s q ≡ f → (f .number ≡ 0 → ⊥) → step s q ≡ stepIs (f .number) (f .place) 0 q
+  unfolding step
+  step-refuses {f} e some = rw e (broken-takes f _ _ some)
+
+  pub step-goes : positionFault s q .number ≡ 0 → step s q ≡ onward (buckets s - q .bucket) s q (q .bucket) (q .count)
+  unfolding step
+  step-goes e = kept-takes (positionFault s q) _ _ e

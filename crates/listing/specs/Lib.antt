@@ -1,0 +1,3 @@
+-- Request 2 of document 02 as definitions.
+pub mod Listing
+pub mod Laws

@@ -1,0 +1,101 @@
+// Paging through a cache: from a position, which the caller holds, the next record in the check's order and the position after it.
+ghost use mathlib.Core.Path.{_≡_};
+ghost use Prim.Native.Nat.{_-_, _≤_, _<_};
+ghost use lib.ListN.{length};
+ghost use Rattle.format.specs.Header.{buckets};
+ghost use Rattle.tables.specs.Tables.{Right};
+ghost use Rattle.listing.specs.Listing.{stepIs, step};
+ghost use Rattle.listing.specs.Listing as definition;
+use format::Ending;
+use tables::Tables;
+
+// A bucket, and how many records of its chain are passed. A caller may make one up.
+pub struct Position {
+    pub bucket: usize,
+    pub count: usize,
+}
+
+// The answer from a position: with number 0 the offset of the record and the position after it; with any other number 0 and the position as it
+// came.
+pub struct Step {
+    pub number: u32,
+    pub place: usize,
+    pub offset: usize,
+    pub next: Position,
+}
+
+impl Position {
+    // The position before the first record.
+    pub fn start() -> Position
+        ensures { λ r. ⌜ r ≡ definition.start ⌝ }
+    {
+        Position {
+            bucket: 0,
+            count: 0,
+        }
+    }
+
+    // The answer without a record.
+    fn stay(self, number: u32, place: usize) -> Step
+        ensures { λ r. ⌜ r ≡ stepIs number place 0 self ⌝ }
+    {
+        Step {
+            number,
+            place,
+            offset: 0,
+            next: self,
+        }
+    }
+
+    // The answer from a position that is right: the chains are tried from its own on, and only on that are records passed.
+    fn onward(self, cache: &[u8], t: Tables) -> Step
+        requires { ⌜ Right (now cache) t ⌝ }
+        requires { ⌜ (self .bucket < buckets (now cache)) × (self .count ≤ length (now cache) - 11) ⌝ }
+        ensures { λ r. ⌜ r ≡ definition.onward (buckets (now (cache .entry)) - self .bucket) (now (cache .entry)) self (self .bucket) (self .count) ⌝ }
+    {
+        let n = t.buckets;
+        let mut bucket = self.bucket;
+        let mut passed = self.count;
+        while bucket < n {
+            let count = passed + 1;
+            let walk = chains::walk_within(cache, t, bucket, &cache[..0], 0, count);
+            let ending = walk.ending;
+            match ending {
+                Ending::Stopped(offset) => {
+                    let next = Position { bucket, count };
+                    return Step {
+                        number: 0,
+                        place: 0,
+                        offset,
+                        next,
+                    };
+                }
+                Ending::Broken(number, place) => {
+                    return self.stay(number, place);
+                }
+                _ => {}
+            }
+            bucket += 1;
+            passed = 0;
+        }
+        self.stay(28, 0)
+    }
+
+    // The next record from this position on, in the check's order, and the position after it.
+    pub fn next(self, cache: &[u8]) -> Step
+        ensures { λ r. ⌜ r ≡ step (now (cache .entry)) self ⌝ }
+    {
+        let header = tables::header(cache);
+        if header.number != 0 {
+            return self.stay(header.number, header.place);
+        }
+        let t = tables::read(cache);
+        if t.buckets <= self.bucket {
+            return self.stay(26, 0);
+        }
+        if cache.len() - 11 < self.count {
+            return self.stay(26, 0);
+        }
+        self.onward(cache, t)
+    }
+}
