@@ -3,6 +3,8 @@
 ghost use mathlib.Core.Path.{_≡_};
 ghost use lib.ListN.{length};
 ghost use Rattle.format.specs.Call.{check, checked, lookup, lookupWords, lookedUp, directory, directoryIs, directoryPart, partIs};
+ghost use Rattle.listing.specs.Listing.{position, step, stepIs};
+use listing::Position;
 
 #[no_mangle]
 pub extern "C" fn icon_cache_check(
@@ -62,5 +64,28 @@ pub extern "C" fn icon_cache_directory_path(
     let answer = icon_cache::directory_part(cache, index);
     *start = answer.start;
     *length = answer.length;
+    answer.number
+}
+
+#[no_mangle]
+pub extern "C" fn icon_cache_list(
+    cache: &[u8],
+    bucket: &mut usize,
+    count: &mut usize,
+    place: &mut usize,
+    offset: &mut usize,
+) -> u32
+    ensures { λ r. ⌜ stepIs r (now (place .exit)) (now (offset .exit)) (position (now (bucket .exit)) (now (count .exit))) ≡ step (now (cache .entry)) (position (now (bucket .entry)) (now (count .entry))) ⌝ }
+{
+    let position = Position {
+        bucket: *bucket,
+        count: *count,
+    };
+    let answer = position.next(cache);
+    let next = answer.next;
+    *bucket = next.bucket;
+    *count = next.count;
+    *place = answer.place;
+    *offset = answer.offset;
     answer.number
 }
