@@ -3,7 +3,7 @@
  *
  * Every function takes any bytes in the cache, any name and any number, and returns an answer number:
  *
- *    0  accepted, or found                          place: 0, or the record found
+ *    0  accepted, found, or a record handed back    place: 0, or the record found
  *    1  fewer than 12 bytes                         place: 0
  *    2  more than 16,777,216 bytes                  place: 0
  *    3  the version is not 1.0                      place: 0
@@ -19,6 +19,8 @@
  *   13  the name asked for is empty, over 255 bytes or holds a zero byte      place: 0
  *   14  too little room for the images              place: the image list
  *   15  no directory has that index                 place: 0
+ *   26  the position names no bucket, or its count is more than the length less 11        place: 0
+ *   28  no further record                           place: 0
  *   30  no record bears the name                    place: 0
  *
  * What the caller owes:
@@ -73,6 +75,22 @@ uint32_t icon_cache_directory(const uint8_t *cache, size_t cache_len, size_t ind
  */
 uint32_t icon_cache_directory_path(const uint8_t *cache, size_t cache_len, size_t index,
                                    size_t *start, size_t *length);
+
+/*
+ * Steps through the icon records, in the order in which the check meets them. A position is a bucket and how many records of its chain are
+ * passed: begin with 0 and 0, keep the position between the calls for as long as you like, and stop at any number but 0. With 0, *record is
+ * the offset of the next record and the position is the one after it. With any other number *record is 0 and the position is as it came: 28
+ * says that there are no further records.
+ *
+ * The record and those passed on its chain have been judged by 7 to 11, so its name lies inside: it begins at the big-endian number of four
+ * bytes at *record + 4, and a zero byte ends it. Other buckets and the directories' paths are not judged: in a cache that the check refuses a
+ * walk may still hand back records. On a chain that never ends it hands them back round and round, until the count is the cache's length less
+ * 10, and then answers 26; on any cache it stops after fewer than twice as many records as there are bytes.
+ *
+ * A step opens at most *count + 1 records of the position's chain.
+ */
+uint32_t icon_cache_list(const uint8_t *cache, size_t cache_len,
+                         size_t *bucket, size_t *count, size_t *place, size_t *record);
 
 #ifdef __cplusplus
 }

@@ -1,5 +1,5 @@
-//! The four calls of the library as they are: an answer number, a place and
-//! counts. Nothing is allocated; found images go into the words lent.
+//! The calls of the library as they are: an answer number, a place and counts.
+//! Nothing is allocated; found images go into the words lent.
 
 /// The answer of [`check`].
 #[derive(Clone, Copy, Debug, PartialEq, Eq)]
@@ -49,6 +49,37 @@ pub struct Path {
     pub length: usize,
 }
 
+/// Where a walk over all records stands: a bucket, and how many records of its
+/// chain are passed. Any position may be made up.
+#[derive(Clone, Copy, Debug, PartialEq, Eq)]
+pub struct Position {
+    /// The number of the bucket, from 0 on.
+    pub bucket: usize,
+    /// How many records of the bucket's chain are passed.
+    pub count: usize,
+}
+
+impl Position {
+    /// Before the first record.
+    pub const START: Position = Position {
+        bucket: 0,
+        count: 0,
+    };
+}
+
+/// The answer of [`list`].
+#[derive(Clone, Copy, Debug, PartialEq, Eq)]
+pub struct Step {
+    /// The answer number, 0 for a record handed back.
+    pub number: u32,
+    /// The offset of the fault, or 0.
+    pub place: usize,
+    /// The offset of the record handed back, 0 with any number but 0.
+    pub record: usize,
+    /// The position after the record; with any number but 0, as it came.
+    pub position: Position,
+}
+
 mod c {
     extern "C" {
         pub fn icon_cache_check(
@@ -85,6 +116,15 @@ mod c {
             index: usize,
             start: *mut usize,
             length: *mut usize,
+        ) -> u32;
+
+        pub fn icon_cache_list(
+            cache: *const u8,
+            cache_len: usize,
+            bucket: *mut usize,
+            count: *mut usize,
+            place: *mut usize,
+            record: *mut usize,
         ) -> u32;
     }
 }
@@ -195,5 +235,34 @@ pub fn directory_path(cache: &[u8], index: usize) -> Path {
         number,
         start,
         length,
+    }
+}
+
+/// Hands back the next record from a position on, in the check's order.
+#[inline]
+pub fn list(cache: &[u8], position: Position) -> Step {
+    let Position {
+        mut bucket,
+        mut count,
+    } = position;
+    let mut place = UNWRITTEN;
+    let mut record = UNWRITTEN;
+    // SAFETY: the pointers are valid for the length given and for this call,
+    // and only the four numbers are written.
+    let number = unsafe {
+        c::icon_cache_list(
+            address(cache),
+            cache.len(),
+            &mut bucket,
+            &mut count,
+            &mut place,
+            &mut record,
+        )
+    };
+    Step {
+        number,
+        place,
+        record,
+        position: Position { bucket, count },
     }
 }
