@@ -1,3 +1,5 @@
 -- Request 2 of document 02 as definitions.
 pub mod Listing
+pub mod Paging
+pub mod Examples
 pub mod Laws

@@ -3,11 +3,14 @@ use Prim.Native.Nat.{ℕ, zero, suc, _+_, _-_, _≤_, _<_}
 use mathlib.Core.Path.{_≡_, refl, sym, ap, _∙_}
 use mathlib.Core.Logic.{inl, inr}
 use mathlib.Core.List.{List}
+use mathlib.Core.Bool.{Bool, true, false}
 use native.Mathlib.Nat.{add-zero}
 use native.Mathlib.Omega.{arith}
 use native.Mathlib.Decide.{decLe}
 use borrow.Author.Tests.{ne-eqb}
 use lib.ListN.{length}
+use lib.Dec.{eqb}
+use Rattle.format.specs.Choice.{if_then_else_}
 use Rattle.format.specs.Number.{be}
 use Rattle.format.specs.Header.{endValue, bucketField}
 use Rattle.format.specs.Record.{recordFault, nameOf}
@@ -19,6 +22,14 @@ use Rattle.format.specs.Laws.Faults.{same-number}
 use Rattle.format.specs.Laws.Rules.{record-number}
 use Rattle.format.specs.Laws.Links.{broken-inside, broken-outside}
 use Rattle.format.specs.Laws.Walk.{walk-ended, walk-outside, walk-broken, walk-met, walk-next, reads-link}
+
+-- a refused record counts once at most
+pub at-most-one : (x : ℕ) → itself x ≤ 1
+at-most-one x = go (eqb x 7)
+  where
+    go : (b : Bool) → (if b then 0 else 1) ≤ 1
+    go true = omega arith
+    go false = omega arith
 
 module _ (s name : List ℕ) (k o : ℕ) where
   -- the walk from the bucket's field on, past n records that keep the rules and bear other names

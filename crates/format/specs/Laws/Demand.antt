@@ -3,12 +3,10 @@ use Prim.Native.Nat.{ℕ, suc, _+_, _-_, _≤_, _<_}
 use mathlib.Core.Path.{_≡_, sym, ap, _∙_}
 use mathlib.Core.Logic.{_↔_, Iff·trans}
 use mathlib.Core.List.{List}
-use mathlib.Core.Bool.{Bool, true, false}
+use mathlib.Core.Bool.{true}
 use native.Mathlib.Nat.{mod-lt}
 use native.Mathlib.Omega.{arith}
 use lib.ListN.{length}
-use lib.Dec.{eqb}
-use Rattle.format.specs.Choice.{if_then_else_}
 use Rattle.format.specs.Text.{hash, allowed}
 use Rattle.format.specs.Header.{buckets, bucketField, directories}
 use Rattle.format.specs.Record.{nameOf, bucketOf}
@@ -19,6 +17,7 @@ use Rattle.format.specs.Laws.Faults.{same-number}
 use Rattle.format.specs.Laws.Header.{header-right}
 use Rattle.format.specs.Laws.Rules.{tables-right, tables-number}
 use Rattle.format.specs.Laws.Links.{on-chain, chain-on, one-step, keeps-bucket, never-breaks, broken-number}
+use Rattle.format.specs.Laws.Along.{at-most-one}
 use Rattle.format.specs.Laws.Course.{course}
 use Rattle.format.specs.Laws.Buckets.{lengths, few, total, check-refuses, answers-accepted, answers-broken, answers-loop}
 use Rattle.format.specs.Laws.Verdict.{Verdict, unsound, accepted, broken, looped, verdict, sound-long}
@@ -29,13 +28,6 @@ number e = ap (λ (a : CheckAnswer). a .number) e
 
 opened : {a b : CheckAnswer} → a ≡ b → a .opened ≡ b .opened
 opened e = ap (λ (a : CheckAnswer). a .opened) e
-
-at-most-one : (x : ℕ) → itself x ≤ 1
-at-most-one x = go (eqb x 7)
-  where
-    go : (b : Bool) → (if b then 0 else 1) ≤ 1
-    go true = omega arith
-    go false = omega arith
 
 module _ {s : List ℕ} where
   accepts : Accepted s → (f : ℕ → ℕ) → Lengths s (buckets s) f → check s ≡ checked 0 0 (directories s) (sum f (buckets s)) (sum f (buckets s))

@@ -1,6 +1,6 @@
 -- The turns of a walk, one law for each way a turn can go, and what stands in the field of a step.
 use Prim.Native.Nat.{ℕ, zero, suc, _+_, _-_}
-use mathlib.Core.Path.{_≡_, refl}
+use mathlib.Core.Path.{_≡_, refl, ap}
 use mathlib.Core.List.{List}
 use native.Mathlib.Omega.{arith}
 use borrow.Author.Tests.{eq-eqb, ne-eqb, le-leb, lt-leb}
@@ -10,8 +10,12 @@ use Rattle.format.specs.Header.{endValue}
 use Rattle.format.specs.Record.{recordFault, nameOf}
 use Rattle.format.specs.Chain.{walk, walkEnds}
 use Rattle.format.specs.Words.{Inside, Keeps, link, linkField}
+use Rattle.format.specs.declared.Walk.{Walk}
 use Rattle.format.specs.declared.Ending.the-variants.{Ended, Met, Broken}
 use Rattle.format.specs.Laws.Names.{equal-same, unequal-other}
+
+pub same-ending : {w v : Walk} → w ≡ v → w .ending ≡ v .ending
+same-ending e = ap (λ (w : Walk). w .ending) e
 
 module _ (s wanted : List ℕ) (k n f o : ℕ) where
   pub walk-ended : be 4 s f ≡ endValue → walk (suc n) s wanted k f o ≡ walkEnds Ended o

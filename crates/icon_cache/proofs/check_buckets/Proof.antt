@@ -2,7 +2,7 @@
 -- present one on answers as the check of all buckets does.
 use Prim.Native.Nat.{ℕ, suc, _+_, _-_, _≤_}
 use mathlib.Core.Path.{_≡_, refl, ap, sym, _∙_}
-use mathlib.Core.Logic.{_⊎_, ⊎-elim}
+use mathlib.Core.Logic.{_⊎_}
 use mathlib.Core.List.{List, []}
 use native.Mathlib.Nat.{sub-zero}
 use native.Mathlib.Numerals.{add-one}
@@ -14,11 +14,11 @@ use Rattle.format.specs.Header.{buckets}
 use Rattle.format.specs.Chain.{walkEnds, walkBucket}
 use Rattle.format.specs.declared.Walk.{Walk}
 use Rattle.format.specs.declared.Ending.{Ending}
-use Rattle.format.specs.declared.Ending.the-variants.{Ended, Met, Broken, Stopped}
 use Rattle.format.specs.Call.{checkBuckets}
 use Rattle.format.specs.Laws.Header.{header-right}
 use Rattle.format.specs.Laws.Buckets.{bucket-ended, bucket-met, bucket-broken, bucket-endless}
 use Rattle.tables.specs.declared.Tables.{Tables}
+use Rattle.chains.proofs.Endings.{ended-or-met}
 use Rattle.icon_cache.proofs.check_buckets.Statement.{statement}
 use Rattle.icon_cache.proofs.check_buckets.Tie as tie
 
@@ -28,13 +28,15 @@ ending-of {w} p q = sym p ∙ ap (λ (e : Ending). walkEnds e (w .opened)) q
 -- a walk that neither breaks nor lasts: the check goes on at the next bucket
 passed : (s : List ℕ) (n k o : ℕ) (w : Walk) → w ≡ walkBucket s [] k o → (tagOf the-type (w .ending) ≡ 0) ⊎ (tagOf the-type (w .ending) ≡ 1)
     → checkBuckets (suc n) s k o ≡ checkBuckets n s (k + 1) (w .opened)
-passed s n k o w p tag = rw add-one (go (w .ending) refl tag)
-  where
-    go : (e : Ending) → w .ending ≡ e → (tagOf the-type e ≡ 0) ⊎ (tagOf the-type e ≡ 1) → checkBuckets (suc n) s k o ≡ checkBuckets n s (suc k) (w .opened)
-    go Ended q h = bucket-ended s n k o (ending-of p q)
-    go (Met r) q h = bucket-met s n k o (ending-of p q)
-    go (Broken x y) q h = absurd (⊎-elim (λ z. omega arith) (λ z. omega arith) h)
-    go (Stopped f) q h = absurd (⊎-elim (λ z. omega arith) (λ z. omega arith) h)
+passed s n k o w p tag =
+    rw add-one
+    (ended-or-met
+    (λ e. w .ending ≡ e → checkBuckets (suc n) s k o ≡ checkBuckets n s (suc k) (w .opened))
+    (λ q. bucket-ended s n k o (ending-of p q))
+    (λ r q. bucket-met s n k o (ending-of p q))
+    (w .ending)
+    tag
+    refl)
 
 abbrev Inv-loop : tie.InvT-loop
 Inv-loop cache t n k₀ opened₀ k opened = (k ≤ n) × (checkBuckets (n - k) cache k opened ≡ checkBuckets (buckets cache) cache 0 0)

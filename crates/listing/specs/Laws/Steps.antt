@@ -14,6 +14,13 @@ use Rattle.format.specs.declared.Ending.the-variants.{Ended, Met, Broken, Stopp
 use Rattle.format.specs.Laws.Faults.{orElse-first, orElse-next, orElse-none, given-none, kept-takes, broken-takes}
 use Rattle.listing.specs.Listing.{position, stepIs, positionRight, positionFault, onward, step}
 use Rattle.listing.specs.declared.Position.{Position}
+use Rattle.listing.specs.declared.Step.{Step}
+
+pub step-number : {a b : Step} → a ≡ b → a .number ≡ b .number
+step-number e = ap (λ (a : Step). a .number) e
+
+pub step-next : {a b : Step} → a ≡ b → a .next ≡ b .next
+step-next e = ap (λ (a : Step). a .next) e
 
 -- one bucket, by the ending of its walk
 module _ (s : List ℕ) (q : Position) (n k c : ℕ) where
@@ -51,6 +58,14 @@ module _ (s : List ℕ) (q : Position) where
     pub position-right : q .bucket < buckets s → q .count ≤ length s - 11 → positionFault s q ≡ noFault
     unfolding positionFault
     position-right l g = orElse-next _ _ h ∙ rw (lt-ltb (q .bucket) (buckets s) l, le-leb (q .count) (length s - 11) g)
+
+  -- what a position tells that is right
+  pub position-tells : positionFault s q .number ≡ 0 → (headerFault s .number ≡ 0) × (q .bucket < buckets s) × (q .count ≤ length s - 11)
+  unfolding positionFault
+  position-tells e =
+      let kept = orElse-none _ _ e in
+      let both = and-eq-true-iff _ _ .0 (not-false _ (given-none _ _ _ (kept .1))) in
+      (kept .0, ltb-true _ _ (both .0), leb-true _ _ (both .1))
 
   pub step-refuses : {f : Fault} → positionFault s q ≡ f → (f .number ≡ 0 → ⊥) → step s q ≡ stepIs (f .number) (f .place) 0 q
   unfolding step

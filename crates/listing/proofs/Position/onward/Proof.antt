@@ -3,7 +3,7 @@
 -- `onward-ended` or `onward-met`.
 use Prim.Native.Nat.{ℕ, suc, _+_, _-_, _≤_}
 use mathlib.Core.Path.{_≡_, refl, ap, sym, _∙_}
-use mathlib.Core.Logic.{_⊎_, ⊎-elim}
+use mathlib.Core.Logic.{_⊎_}
 use mathlib.Core.List.{List, []}
 use native.Mathlib.Nat.{sub-zero}
 use native.Mathlib.Numerals.{add-one}
@@ -15,11 +15,11 @@ use denote.Enum.Declared.{tagOf}
 use Rattle.format.proofs.Ending.{the-type}
 use Rattle.format.specs.Header.{buckets, bucketField}
 use Rattle.format.specs.Chain.{walk}
-use Rattle.format.specs.declared.Walk.{Walk}
 use Rattle.format.specs.declared.Ending.{Ending}
-use Rattle.format.specs.declared.Ending.the-variants.{Ended, Met, Broken, Stopped}
 use Rattle.format.specs.Laws.Header.{header-right}
+use Rattle.format.specs.Laws.Walk.{same-ending}
 use Rattle.tables.specs.declared.Tables.{Tables}
+use Rattle.chains.proofs.Endings.{ended-or-met}
 use Rattle.listing.specs.declared.Position.{Position}
 use Rattle.listing.specs.Listing.{onward}
 use Rattle.listing.specs.Laws.Steps.{onward-ended, onward-met, onward-broken, onward-stopped}
@@ -52,16 +52,21 @@ walked : (c : tie.After-walk-within Inv-loop μ-loop)
     → let l = c .before .before .before in
     let s = now (l .before .before .args .cache) in
     walk (suc (l .loop .passed)) s [] (l .loop .bucket) (bucketField s (l .loop .bucket)) 0 .ending ≡ c .walk-within .result .ending
-walked c = sym (rw (sub-zero, add-one) at (ap (λ (w : Walk). w .ending) (c .walk-within .ensures)))
+walked c = sym (rw (sub-zero, add-one) at (same-ending (c .walk-within .ensures)))
 
 -- a walk that neither breaks nor stops: the next bucket is tried
 passed : (s : List ℕ) (q : Position) (n k c : ℕ) (e : Ending)
     → walk (suc c) s [] k (bucketField s k) 0 .ending ≡ e → (tagOf the-type e ≡ 0) ⊎ (tagOf the-type e ≡ 1)
     → onward (suc n) s q k c ≡ onward n s q (k + 1) 0
-passed s q n k c Ended e h = rw add-one (onward-ended s q n k c e)
-passed s q n k c (Met r) e h = rw add-one (onward-met s q n k c e)
-passed s q n k c (Broken x p) e h = absurd (⊎-elim (λ z. omega arith) (λ z. omega arith) h)
-passed s q n k c (Stopped r) e h = absurd (⊎-elim (λ z. omega arith) (λ z. omega arith) h)
+passed s q n k c e w tag =
+    rw add-one
+    (ended-or-met
+    (λ e. walk (suc c) s [] k (bucketField s k) 0 .ending ≡ e → onward (suc n) s q k c ≡ onward n s q (suc k) 0)
+    (λ w. onward-ended s q n k c w)
+    (λ r w. onward-met s q n k c w)
+    e
+    tag
+    w)
 
 loop-holds : tie.Need-loop-holds Inv-loop μ-loop
 loop-holds c =
