@@ -1,17 +1,22 @@
 //! Reads icon theme caches (`icon-theme.cache`).
 //!
 //! The cache is a lent byte slice; nothing in it is trusted. [`check`] judges
-//! the whole cache, [`lookup`] finds the images of one icon name, and
-//! [`directory`] gives the path of one directory index.
+//! the whole cache, [`lookup`] finds the images of one icon name, [`directory`]
+//! gives the path of one directory index, and [`records`] hands back all icon
+//! records, from any [`Position`] on.
 //!
 //! ```
-//! use icon_cache::{check, directory, lookup, FARM_CACHE};
+//! use icon_cache::{check, directory, lookup, records, FARM_CACHE};
 //!
 //! assert_eq!(check(FARM_CACHE)?.icons, 3);
 //!
 //! let cow = lookup(FARM_CACHE, b"cow")?;
 //! let last = cow.images.last().unwrap();
 //! assert_eq!(directory(FARM_CACHE, last.directory.into())?, b"64");
+//!
+//! for record in records(FARM_CACHE) {
+//!     assert!(lookup(FARM_CACHE, record?.name).is_ok());
+//! }
 //! # Ok::<(), icon_cache::Refusal>(())
 //! ```
 //!
@@ -20,9 +25,12 @@
 
 mod farm;
 pub mod raw;
+mod records;
 mod refusal;
 
 pub use farm::FARM_CACHE;
+pub use raw::Position;
+pub use records::{records, records_from, Record, Records};
 pub use refusal::Refusal;
 
 /// The largest length of a cache, 16 MiB. A longer one is refused.

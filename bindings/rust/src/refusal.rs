@@ -18,11 +18,13 @@ use std::fmt;
 /// ```
 #[derive(Clone, Copy, Debug, PartialEq, Eq)]
 pub struct Refusal {
-    /// The answer number, 1 to 15 or 30.
+    /// The answer number, 1 to 15, 26 or 30.
     pub number: u32,
     /// The offset of the fault in the cache, 0 where it has none.
     pub place: usize,
-    /// How many icon records the call opened.
+    /// How many icon records the call opened. It is 0 from
+    /// [`directory`](crate::directory), which opens none, and from
+    /// [`Records`](crate::Records), which doesn't count them.
     pub opened: usize,
 }
 
@@ -39,6 +41,11 @@ impl Refusal {
     pub const NO_ROOM: u32 = 14;
     /// No directory has the index asked for.
     pub const NO_SUCH_DIRECTORY: u32 = 15;
+    /// The position names no bucket, or its count is more than the cache's
+    /// length less 11.
+    pub const BAD_POSITION: u32 = 26;
+    /// [`raw::list`](crate::raw::list) has no further record to hand back.
+    pub const DONE: u32 = 28;
     /// No record bears the name asked for.
     pub const ABSENT: u32 = 30;
 }
@@ -61,6 +68,8 @@ impl fmt::Display for Refusal {
             13 => "the name asked for is empty, too long or holds a zero byte",
             14 => "there is too little room for the images",
             15 => "there is no directory of this index",
+            26 => "the position asked for names no bucket, or its count is too large",
+            28 => "there is no further record",
             30 => "there is no icon of this name",
             _ => "the answer number is unknown",
         })
@@ -91,6 +100,8 @@ mod tests {
             (Refusal::ENDLESS_CHAIN, "never ends"),
             (Refusal::NO_ROOM, "too little room"),
             (Refusal::NO_SUCH_DIRECTORY, "no directory"),
+            (Refusal::BAD_POSITION, "the position"),
+            (Refusal::DONE, "no further record"),
             (Refusal::ABSENT, "no icon"),
         ] {
             assert!(sentence(number).contains(words), "{number}");
@@ -99,8 +110,8 @@ mod tests {
 
     #[test]
     fn each_number_has_its_own_sentence() {
-        let known: HashSet<_> = (1..=15).chain([30]).map(sentence).collect();
-        assert_eq!(known.len(), 16);
+        let known: HashSet<_> = (1..=15).chain([26, 28, 30]).map(sentence).collect();
+        assert_eq!(known.len(), 18);
         assert!(!known.contains(&sentence(0)));
     }
 }
