@@ -1,12 +1,14 @@
-//! Caches of real icon themes: the check, each name and each directory.
+//! Caches of real icon themes: the check, each record, each name and each
+//! directory.
 //!
 //! Their sizes are known, so that a walk over fewer icons does not pass.
 
 mod reader;
 mod side_by_side;
 
-use icon_cache::{check, lookup, Checked};
+use icon_cache::{check, lookup, records, Checked, Record, Refusal};
 use side_by_side::Pair;
+use std::collections::{HashMap, HashSet};
 
 #[test]
 fn hicolor() {
@@ -30,6 +32,7 @@ fn walk(cache: &[u8], icons: usize, directories: usize) {
 
     let names = reader::names(cache);
     assert_eq!(names.len(), icons);
+    list(cache, &names);
     for name in names {
         ask_name(&pair, name);
     }
@@ -40,6 +43,24 @@ fn walk(cache: &[u8], icons: usize, directories: usize) {
         ask_directory(&pair, cache, index);
     }
     assert_eq!(pair.directory(directories).unwrap().number, 15);
+}
+
+/// Each record comes once, and a lookup finds the first of its name.
+fn list(cache: &[u8], names: &[&[u8]]) {
+    let listed: Result<Vec<Record>, Refusal> = records(cache).collect();
+    let listed = listed.unwrap();
+    assert!(listed
+        .iter()
+        .map(|record| record.name)
+        .eq(names.iter().copied()));
+    let offsets: HashSet<usize> = listed.iter().map(|record| record.offset).collect();
+    assert_eq!(offsets.len(), listed.len());
+
+    let mut first = HashMap::new();
+    for record in listed {
+        let offset = *first.entry(record.name).or_insert(record.offset);
+        assert_eq!(lookup(cache, record.name).unwrap().record, offset);
+    }
 }
 
 /// The pair compares the safe answers too.
