@@ -19,21 +19,46 @@ pub enum Request {
 /// Why a command line is not understood.
 pub struct Misuse {
     pub message: String,
-    /// The command whose help tells more, with a space behind it, or nothing.
-    pub command: &'static str,
+    /// The command whose help tells more, if one is named.
+    pub command: Option<&'static str>,
 }
+
+struct Command {
+    name: &'static str,
+    help: &'static str,
+    /// Makes its request of its operands. The error says what is wrong with them.
+    request: fn(Vec<OsString>) -> Result<Request, &'static str>,
+}
+
+const COMMANDS: [Command; 3] = [
+    Command {
+        name: "check",
+        help: help::CHECK,
+        request: check,
+    },
+    Command {
+        name: "lookup",
+        help: help::LOOKUP,
+        request: lookup,
+    },
+    Command {
+        name: "dirs",
+        help: help::DIRS,
+        request: dirs,
+    },
+];
 
 pub fn parse(mut arguments: impl Iterator<Item = OsString>) -> Result<Request, Misuse> {
     let Some(first) = arguments.next() else {
-        return misuse("", "a command is missing");
+        return misuse(None, "a command is missing");
     };
     match first.to_str() {
         Some("-h" | "--help") => alone(&first, arguments, Request::Help(help::TOOL)),
         Some("-V" | "--version") => alone(&first, arguments, Request::Version),
-        Some("check") => command("check ", help::CHECK, arguments, check),
-        Some("lookup") => command("lookup ", help::LOOKUP, arguments, lookup),
-        Some("dirs") => command("dirs ", help::DIRS, arguments, dirs),
-        _ => unknown("", &first),
+        _ => match COMMANDS.iter().find(|command| first == command.name) {
+            Some(command) => request(command, arguments),
+            None => unknown(None, &first),
+        },
     }
 }
 
@@ -47,29 +72,23 @@ fn alone(
         return Ok(request);
     }
     let option = show::bytes(option.as_encoded_bytes());
-    misuse("", &format!("{option} takes no arguments"))
+    misuse(None, &format!("{option} takes no arguments"))
 }
 
-/// The request of a command, made of its operands. The error says what is wrong
-/// with them.
-type MakeRequest = fn(Vec<OsString>) -> Result<Request, &'static str>;
-
-fn command(
-    command: &'static str,
-    help: &'static str,
+fn request(
+    command: &Command,
     mut arguments: impl Iterator<Item = OsString>,
-    make: MakeRequest,
 ) -> Result<Request, Misuse> {
     let mut operands = Vec::new();
     while let Some(argument) = arguments.next() {
         match argument.to_str() {
-            Some("-h" | "--help") => return Ok(Request::Help(help)),
+            Some("-h" | "--help") => return Ok(Request::Help(command.help)),
             Some("--") => operands.extend(arguments.by_ref()),
-            _ if is_option(&argument) => return unknown(command, &argument),
+            _ if is_option(&argument) => return unknown(Some(command.name), &argument),
             _ => operands.push(argument),
         }
     }
-    make(operands).or_else(|message| misuse(command, message))
+    (command.request)(operands).or_else(|message| misuse(Some(command.name), message))
 }
 
 /// Standard input can be read only once.
@@ -108,7 +127,7 @@ fn is_option(argument: &OsStr) -> bool {
     bytes.len() > 1 && bytes[0] == b'-'
 }
 
-fn unknown(command: &'static str, argument: &OsStr) -> Result<Request, Misuse> {
+fn unknown(command: Option<&'static str>, argument: &OsStr) -> Result<Request, Misuse> {
     let shown = show::bytes(argument.as_encoded_bytes());
     let kind = if is_option(argument) {
         "option"
@@ -118,7 +137,7 @@ fn unknown(command: &'static str, argument: &OsStr) -> Result<Request, Misuse> {
     misuse(command, &format!("there is no {kind} {shown}"))
 }
 
-fn misuse(command: &'static str, message: &str) -> Result<Request, Misuse> {
+fn misuse(command: Option<&'static str>, message: &str) -> Result<Request, Misuse> {
     Err(Misuse {
         message: message.to_owned(),
         command,

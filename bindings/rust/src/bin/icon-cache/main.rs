@@ -38,6 +38,10 @@ fn say(output: &mut Output, text: &str) -> Status {
 
 fn complain(output: &mut Output, misuse: &Misuse) -> Status {
     output.complain(&misuse.message);
-    output.complain(&format!("see `icon-cache {}--help`", misuse.command));
+    let help = match misuse.command {
+        Some(command) => format!("icon-cache {command} --help"),
+        None => "icon-cache --help".to_owned(),
+    };
+    output.complain(&format!("see `{help}`"));
     Status::Failed
 }
