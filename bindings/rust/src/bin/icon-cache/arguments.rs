@@ -2,6 +2,8 @@
 
 use crate::input::is_standard_input;
 use crate::{help, show};
+use icon_cache::Position;
+use std::collections::HashMap;
 use std::ffi::{OsStr, OsString};
 
 /// What is asked for.
@@ -14,6 +16,11 @@ pub enum Request {
         names: Vec<OsString>,
     },
     Dirs(OsString),
+    List {
+        file: OsString,
+        from: Position,
+        limit: usize,
+    },
 }
 
 /// Why a command line is not understood.
@@ -26,27 +33,49 @@ pub struct Misuse {
 struct Command {
     name: &'static str,
     help: &'static str,
-    /// Makes its request of its operands. The error says what is wrong with them.
-    request: fn(Vec<OsString>) -> Result<Request, &'static str>,
+    /// The options that it takes, each with a value.
+    options: &'static [&'static str],
+    /// Makes its request. The error says what is wrong with what is given.
+    request: fn(Given) -> Result<Request, &'static str>,
 }
 
-const COMMANDS: [Command; 3] = [
+const COMMANDS: [Command; 4] = [
     Command {
         name: "check",
         help: help::CHECK,
+        options: &[],
         request: check,
     },
     Command {
         name: "lookup",
         help: help::LOOKUP,
+        options: &[],
         request: lookup,
     },
     Command {
         name: "dirs",
         help: help::DIRS,
+        options: &[],
         request: dirs,
     },
+    Command {
+        name: "list",
+        help: help::LIST,
+        options: &[FROM, LIMIT],
+        request: list,
+    },
 ];
+
+const FROM: &str = "--from";
+const LIMIT: &str = "--limit";
+
+/// What stands behind the name of a command.
+#[derive(Default)]
+struct Given {
+    operands: Vec<OsString>,
+    /// The values of its options. Of an option given twice the last counts.
+    values: HashMap<&'static str, String>,
+}
 
 pub fn parse(mut arguments: impl Iterator<Item = OsString>) -> Result<Request, Misuse> {
     let Some(first) = arguments.next() else {
@@ -79,20 +108,46 @@ fn request(
     command: &Command,
     mut arguments: impl Iterator<Item = OsString>,
 ) -> Result<Request, Misuse> {
-    let mut operands = Vec::new();
+    let mut given = Given::default();
     while let Some(argument) = arguments.next() {
         match argument.to_str() {
             Some("-h" | "--help") => return Ok(Request::Help(command.help)),
-            Some("--") => operands.extend(arguments.by_ref()),
-            _ if is_option(&argument) => return unknown(Some(command.name), &argument),
-            _ => operands.push(argument),
+            Some("--") => given.operands.extend(arguments.by_ref()),
+            _ if is_option(&argument) => {
+                let (name, value) = option(command, &argument, &mut arguments)?;
+                given.values.insert(name, value);
+            }
+            _ => given.operands.push(argument),
         }
     }
-    (command.request)(operands).or_else(|message| misuse(Some(command.name), message))
+    (command.request)(given).or_else(|message| misuse(Some(command.name), message))
+}
+
+/// An option and its value, which stands behind a `=` or is the next argument.
+/// What is not UTF-8 may be lost: no option and no value has such bytes.
+fn option(
+    command: &Command,
+    argument: &OsStr,
+    arguments: &mut impl Iterator<Item = OsString>,
+) -> Result<(&'static str, String), Misuse> {
+    let text = argument.to_string_lossy();
+    let (name, value) = match text.split_once('=') {
+        Some((name, value)) => (name, Some(value.to_owned())),
+        None => (&*text, None),
+    };
+    let Some(option) = command.options.iter().find(|option| **option == name) else {
+        return unknown(Some(command.name), argument);
+    };
+    let next = || Some(arguments.next()?.to_string_lossy().into_owned());
+    match value.or_else(next) {
+        Some(value) => Ok((option, value)),
+        None => misuse(Some(command.name), &format!("{option} takes a value")),
+    }
 }
 
 /// Standard input can be read only once.
-fn check(files: Vec<OsString>) -> Result<Request, &'static str> {
+fn check(given: Given) -> Result<Request, &'static str> {
+    let files = given.operands;
     let from_input = files.iter().filter(|file| is_standard_input(file));
     match (files.len(), from_input.count()) {
         (0, _) => Err("a file is missing"),
@@ -101,7 +156,8 @@ fn check(files: Vec<OsString>) -> Result<Request, &'static str> {
     }
 }
 
-fn lookup(mut operands: Vec<OsString>) -> Result<Request, &'static str> {
+fn lookup(given: Given) -> Result<Request, &'static str> {
+    let mut operands = given.operands;
     match operands.len() {
         0 => Err("a file and a name are missing"),
         1 => Err("a name is missing"),
@@ -113,12 +169,51 @@ fn lookup(mut operands: Vec<OsString>) -> Result<Request, &'static str> {
     }
 }
 
-fn dirs(mut files: Vec<OsString>) -> Result<Request, &'static str> {
+fn dirs(given: Given) -> Result<Request, &'static str> {
+    only_file(given.operands).map(Request::Dirs)
+}
+
+fn list(given: Given) -> Result<Request, &'static str> {
+    let from = match given.values.get(FROM) {
+        Some(value) => position(value).ok_or("--from takes a position, such as 0:2")?,
+        None => Position::START,
+    };
+    let limit = match given.values.get(LIMIT) {
+        Some(value) => page_length(value).ok_or("--limit takes a number from 1 on")?,
+        // No cache has as many icons.
+        None => usize::MAX,
+    };
+    let file = only_file(given.operands)?;
+    Ok(Request::List { file, from, limit })
+}
+
+fn only_file(mut files: Vec<OsString>) -> Result<OsString, &'static str> {
     match (files.pop(), files.len()) {
         (None, _) => Err("a file is missing"),
-        (Some(file), 0) => Ok(Request::Dirs(file)),
+        (Some(file), 0) => Ok(file),
         _ => Err("there is more than one file"),
     }
+}
+
+/// The position BUCKET:COUNT.
+fn position(value: &str) -> Option<Position> {
+    let (bucket, count) = value.split_once(':')?;
+    Some(Position {
+        bucket: number(bucket)?,
+        count: number(count)?,
+    })
+}
+
+/// An empty page would lead nowhere.
+fn page_length(value: &str) -> Option<usize> {
+    number(value).filter(|length| *length > 0)
+}
+
+/// A number in digits. The largest stands for all above: no cache has a position
+/// or a page of that size.
+fn number(digits: &str) -> Option<usize> {
+    let is_number = !digits.is_empty() && digits.bytes().all(|digit| digit.is_ascii_digit());
+    is_number.then(|| digits.parse().unwrap_or(usize::MAX))
 }
 
 /// A dash alone is standard input.
@@ -127,7 +222,7 @@ fn is_option(argument: &OsStr) -> bool {
     bytes.len() > 1 && bytes[0] == b'-'
 }
 
-fn unknown(command: Option<&'static str>, argument: &OsStr) -> Result<Request, Misuse> {
+fn unknown<T>(command: Option<&'static str>, argument: &OsStr) -> Result<T, Misuse> {
     let shown = show::bytes(argument.as_encoded_bytes());
     let kind = if is_option(argument) {
         "option"
@@ -137,7 +232,7 @@ fn unknown(command: Option<&'static str>, argument: &OsStr) -> Result<Request, M
     misuse(command, &format!("there is no {kind} {shown}"))
 }
 
-fn misuse(command: Option<&'static str>, message: &str) -> Result<Request, Misuse> {
+fn misuse<T>(command: Option<&'static str>, message: &str) -> Result<T, Misuse> {
     Err(Misuse {
         message: message.to_owned(),
         command,

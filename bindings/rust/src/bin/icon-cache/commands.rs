@@ -1,9 +1,10 @@
-//! The three commands.
+//! The four commands.
 
 use crate::input::Source;
 use crate::output::{Colour, Output, Status};
 use crate::show;
-use icon_cache::{Found, Image, Refusal};
+use icon_cache::raw::{self, Position};
+use icon_cache::{Found, Image, Record, Refusal};
 use std::ffi::{OsStr, OsString};
 
 pub fn check(output: &mut Output, files: &[OsString]) -> Status {
@@ -29,6 +30,12 @@ pub fn lookup(output: &mut Output, file: &OsStr, names: &[OsString]) -> Status {
 
 pub fn dirs(output: &mut Output, file: &OsStr) -> Status {
     with_cache(output, file, list_directories)
+}
+
+pub fn list(output: &mut Output, file: &OsStr, from: Position, limit: usize) -> Status {
+    with_cache(output, file, |output, shown, cache| {
+        list_page(output, shown, cache, from, limit)
+    })
 }
 
 /// Reads the cache and hands it on with its name, if it can be read.
@@ -66,8 +73,11 @@ fn check_file(output: &mut Output, file: &OsStr) -> Status {
 }
 
 fn say_refused(output: &mut Output, what: &str, refusal: &Refusal) -> Status {
+    say_refused_because(output, what, &show::refusal(refusal))
+}
+
+fn say_refused_because(output: &mut Output, what: &str, why: &str) -> Status {
     let refused = output.paint(Colour::Red, "refused");
-    let why = show::refusal(refusal);
     output.line(&format!("{what}: {refused}: {why}"));
     Status::Refused
 }
@@ -140,4 +150,78 @@ fn list_directories(output: &mut Output, shown: &str, cache: &[u8]) -> Status {
         output.line(&format!("{shown}: no directories"));
     }
     status
+}
+
+/// One record more than the page takes is asked for: it tells whether there is a
+/// next page.
+fn list_page(
+    output: &mut Output,
+    shown: &str,
+    cache: &[u8],
+    from: Position,
+    limit: usize,
+) -> Status {
+    let mut records = icon_cache::records_from(cache, from);
+    let mut listed = 0;
+    let mut end = from;
+    while let Some(record) = records.next() {
+        let Position { bucket, count } = records.position();
+        let chain_is_new = listed == 0 || count == 1;
+        match record {
+            Err(refusal) => return say_refused(output, shown, &refusal),
+            Ok(_) if chain_is_new && is_endless(cache, bucket) => {
+                return say_endless(output, shown, bucket);
+            }
+            Ok(_) if listed == limit => return say_next_page(output, end),
+            Ok(record) => say_record(output, &record),
+        }
+        listed += 1;
+        end = records.position();
+        // The rest may take hours, and nobody would see it.
+        if output.is_closed() {
+            break;
+        }
+    }
+    if listed == 0 {
+        say_no_icons(output, shown, from);
+    }
+    Status::Good
+}
+
+/// On a chain that never ends the records would come round and round. On one that
+/// ends no record follows the largest count that a position may have.
+fn is_endless(cache: &[u8], bucket: usize) -> bool {
+    let count = cache.len() - 11;
+    let step = raw::list(cache, Position { bucket, count });
+    step.number == 0 && step.position.bucket == bucket
+}
+
+/// The library doesn't say where the field of the bucket stands.
+fn say_endless(output: &mut Output, shown: &str, bucket: usize) -> Status {
+    let rule = Refusal::ENDLESS_CHAIN;
+    let why = format!("rule {rule}: the chain of bucket {bucket} never ends");
+    say_refused_because(output, shown, &why)
+}
+
+/// The next record may take a while: its chain is passed anew.
+fn say_record(output: &mut Output, record: &Record) {
+    let name = show::bytes(record.name);
+    let offset = show::offset(record.offset);
+    output.line(&format!("{name}: record at {offset}"));
+    output.flush();
+}
+
+fn say_next_page(output: &mut Output, from: Position) -> Status {
+    let Position { bucket, count } = from;
+    output.line(&format!("next page: --from {bucket}:{count}"));
+    Status::Good
+}
+
+fn say_no_icons(output: &mut Output, shown: &str, from: Position) {
+    let none = if from == Position::START {
+        "no icons"
+    } else {
+        "no further icons"
+    };
+    output.line(&format!("{shown}: {none}"));
 }

@@ -3,12 +3,14 @@
 pub const VERSION: &str = concat!("icon-cache ", env!("CARGO_PKG_VERSION"));
 
 pub const TOOL: &str = "\
-Checks icon theme caches (icon-theme.cache) and looks up icons in them.
+Checks icon theme caches (icon-theme.cache), looks up icons in them and lists
+what they have.
 
 Usage:
   icon-cache check FILE...         say whether each cache is sound
   icon-cache lookup FILE NAME...   show the images of each icon
   icon-cache dirs FILE             list the directories of a cache
+  icon-cache list FILE             list the icons of a cache, or a page of them
 
 A directory as FILE stands for the icon-theme.cache in it, and - for standard
 input. After -- no argument is taken for an option.
@@ -65,5 +67,28 @@ Usage: icon-cache dirs FILE
 
 A directory as FILE stands for the icon-theme.cache in it, and - for standard
 input.
+
+Exit status: 0 listed, 1 refused, 2 a file that can't be read.";
+
+pub const LIST: &str = "\
+Lists the icons of a cache, or a page of them, in one line for each.
+
+Usage: icon-cache list FILE [--from BUCKET:COUNT] [--limit N]
+
+A line has the name of the icon and the offset of its record (decimal and hex).
+The order is that of the buckets in the cache, and of the chain in each.
+
+Options:
+  --from BUCKET:COUNT   begin at this bucket, after COUNT records of its chain
+  --limit N             list N icons at most
+
+If N icons are listed and another follows, a last line tells how to go on, such
+as `next page: --from 12:1`. Of an option given twice the last counts, so that
+can be added to the same command.
+
+A directory as FILE stands for the icon-theme.cache in it, and - for standard
+input. Only the records on the way are judged, and the list ends at the first
+that is refused. On a chain that never ends icons would come round and round, so
+none of it is listed. `icon-cache check` judges the whole cache.
 
 Exit status: 0 listed, 1 refused, 2 a file that can't be read.";

@@ -1,4 +1,5 @@
-//! The tool `icon-cache`: checks caches, looks up icons and lists directories.
+//! The tool `icon-cache`: checks caches, looks up icons, and lists directories
+//! and icons.
 
 mod arguments;
 mod commands;
@@ -28,6 +29,7 @@ fn answer(output: &mut Output, request: Request) -> Status {
         Request::Check(files) => commands::check(output, &files),
         Request::Lookup { file, names } => commands::lookup(output, &file, &names),
         Request::Dirs(file) => commands::dirs(output, &file),
+        Request::List { file, from, limit } => commands::list(output, &file, from, limit),
     }
 }
 

@@ -85,6 +85,11 @@ impl Output {
         }
     }
 
+    /// Whether the stream has failed, so that no further line is written.
+    pub fn is_closed(&self) -> bool {
+        self.error.is_some()
+    }
+
     /// The exit status after all is written. A reader that has seen enough may
     /// close the pipe; what was found out still counts.
     pub fn finish(mut self, status: Status) -> Status {
