@@ -1,4 +1,4 @@
-/* Checks a cache and prints the images of one icon, each with its directory: example CACHE NAME */
+/* Checks a cache, prints the images of one icon, each with its directory, and two short pages of the icons: example CACHE NAME */
 #include "icon_cache.h"
 
 #include <errno.h>
@@ -76,6 +76,39 @@ static int lookup(const char *name)
     return 0;
 }
 
+/* Whatever the cache, the name of a record that was handed back lies inside, and a zero byte ends it. */
+static const char *name_of(size_t record)
+{
+    const uint8_t *field = cache + record + 4;
+    size_t name = (size_t)field[0] << 24 | (size_t)field[1] << 16 | (size_t)field[2] << 8 | field[3];
+    return (const char *)cache + name;
+}
+
+/* Prints the next two icons and moves the position behind them. Returns whether there may be more. */
+static int print_page(size_t *bucket, size_t *count)
+{
+    printf("page from bucket %zu, count %zu\n", *bucket, *count);
+    for (int i = 0; i < 2; i++) {
+        size_t place, record;
+        uint32_t number = icon_cache_list(cache, cache_len, bucket, count, &place, &record);
+        if (number != 0) {
+            printf("  answer %u at %zu\n", (unsigned)number, place);
+            return 0;
+        }
+        printf("  %s: record at %zu\n", name_of(record), record);
+    }
+    return 1;
+}
+
+/* The position is all that is kept between the pages. On a chain that never ends the same icons come again. */
+static void list(void)
+{
+    size_t bucket = 0, count = 0;
+    if (print_page(&bucket, &count)) {
+        print_page(&bucket, &count);
+    }
+}
+
 int main(int argc, char **argv)
 {
     if (argc != 3) {
@@ -87,5 +120,6 @@ int main(int argc, char **argv)
     }
     int refused = check();
     int not_found = lookup(argv[2]);
+    list(); /* what it refuses, the check has refused too */
     return refused || not_found;
 }
