@@ -82,10 +82,10 @@ uint32_t icon_cache_directory_path(const uint8_t *cache, size_t cache_len, size_
  * the offset of the next record and the position is the one after it. With any other number *record is 0 and the position is as it came: 28
  * says that there are no further records.
  *
- * The record and those passed on its chain have been judged by 7 to 11, so its name lies inside: it begins at the big-endian number of four
- * bytes at *record + 4, and a zero byte ends it. Other buckets and the directories' paths are not judged: in a cache that the check refuses a
- * walk may still hand back records. On a chain that never ends it hands them back round and round, until the count is the cache's length less
- * 10, and then answers 26; on any cache it stops after fewer than twice as many records as there are bytes.
+ * The record and all that the step passed have been judged by 7 to 11, so its name lies inside: it begins at the big-endian number of four
+ * bytes at *record + 4, and a zero byte ends it. Buckets below the position's and the directories' paths are not judged: in a cache that the
+ * check refuses a walk may still hand back records. On a chain that never ends it hands them back round and round, until the count is the
+ * cache's length less 10, and then answers 26; on any cache it stops after fewer than twice as many records as there are bytes.
  *
  * A step opens at most *count + 1 records of the position's chain.
  */
