@@ -1,6 +1,7 @@
 // Prints one line for each answer: the case, the call, and every number that the call gives.
 use format::LookupAnswer;
 use libc::STDOUT_FILENO;
+use listing::Position;
 
 pub fn print(text: &[u8]) {
     io::write_all(STDOUT_FILENO, text);
@@ -82,4 +83,16 @@ pub fn directory(case: &[u8], cache: &[u8], index: usize) {
     print(b", path \"");
     print(icon_cache::directory_path(cache, index));
     print(b"\"\n");
+}
+
+// A step; the position that it hands back is for the next.
+pub fn step(case: &[u8], cache: &[u8], from: Position) -> Position {
+    let answer = from.next(cache);
+    let next = answer.next;
+    begin(case, b": step ", answer.number, answer.place);
+    count(b", record ", answer.offset);
+    count(b", bucket ", next.bucket);
+    count(b", count ", next.count);
+    end();
+    next
 }

@@ -10,6 +10,7 @@ mod images;
 mod names;
 mod places;
 mod queries;
+mod steps;
 mod walks;
 
 fn main() {
@@ -21,4 +22,5 @@ fn main() {
     places::run();
     walks::run();
     queries::run();
+    steps::run();
 }
