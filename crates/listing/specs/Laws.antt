@@ -5,4 +5,5 @@ pub mod Ahead
 pub mod Order
 pub mod Lists
 pub mod Ends
+pub mod Endless
 pub mod Pages

@@ -5,10 +5,10 @@ use mathlib.Core.List.{List, [], _∷_, _++_}
 use mathlib.Core.Logic.{_↔_}
 use lib.ListN.{length, getD}
 use Rattle.format.specs.Fault.{fault}
-use Rattle.format.specs.Header.{buckets, bucketField}
+use Rattle.format.specs.Header.{headerFault, buckets, bucketField}
 use Rattle.format.specs.Chain.{walk}
 use Rattle.format.specs.Call.{check}
-use Rattle.format.specs.Words.{link, KeepsBelow, Holds, Breaks, OnChain, Accepted, Lengths}
+use Rattle.format.specs.Words.{link, KeepsBelow, Holds, Breaks, OnChain, Turns, Accepted, Lengths}
 use Rattle.listing.specs.Listing.{position, start, stepIs, positionFault, step}
 use Rattle.listing.specs.declared.Position.{Position}
 use Rattle.listing.specs.declared.Step.{Step}
@@ -71,11 +71,20 @@ pub record Ends (s : List ℕ) (q : Position) (m : ℕ) : Type 0 where
   pub no-record : stepAt m s q .number ≡ 0 → ⊥
   pub stays : (n : ℕ) → m ≤ n → stepAt n s q ≡ stepAt m s q
 
+-- the largest count that a position may have, and that the step from there hands back a record of bucket k's own chain
+abbrev pub largest : List ℕ → ℕ → Position
+largest s k = position k (length s - 11)
+
+abbrev pub AtTheLargestCount : List ℕ → ℕ → Type 0
+AtTheLargestCount s k = let a = step s (largest s k) in (a .number ≡ 0) × (a .next .bucket ≡ k)
+
 -- What request 2 promises: the walk from the start over an accepted cache, whose chains have the lengths f, meets each record once, as many as the
--- check counts; a walk on any buffer, from any position, ends; and for a position with c records passed a chain is opened c + 1 records far at most.
+-- check counts; a walk on any buffer, from any position, ends; a chain that keeps the rules never ends exactly where the largest count still gives a
+-- record of it; and where c records are to be passed, at most c + 1 of the chain are opened.
 pub record Pages (s : List ℕ) : Type 0 where
   pub each-once : Accepted s → (f : ℕ → ℕ) → Lengths s (buckets s) f → EachOnce s (allRecords s f)
   pub as-many : Accepted s → (f : ℕ → ℕ) → Lengths s (buckets s) f → length (allRecords s f) ≡ check s .icons
   pub lists : Accepted s → (f : ℕ → ℕ) → Lengths s (buckets s) f → Lists s (allRecords s f)
   pub ends : (q : Position) → (m : ℕ) × (m ≤ length s - 11 + (length s - 10)) × Ends s q m
+  pub endless : headerFault s .number ≡ 0 → (k : ℕ) → k < buckets s → (AtTheLargestCount s k ↔ Turns s k)
   pub opens : (k c : ℕ) → walk (suc c) s [] k (bucketField s k) 0 .opened ≤ suc c

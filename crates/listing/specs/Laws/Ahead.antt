@@ -1,10 +1,9 @@
 -- What lies ahead of a position: one of three ways, and one is always at hand. Each gives the step's answer.
 use Prim.Native.Nat.{ℕ, zero, suc, _-_, _≤_, _<_}
-use mathlib.Core.Path.{_≡_, refl, ap, _∙_}
+use mathlib.Core.Path.{_≡_, refl, _∙_}
 use mathlib.Core.List.{List, []}
 use native.Mathlib.Omega.{arith}
 use Rattle.format.specs.Header.{buckets}
-use Rattle.format.specs.Chain.{walk}
 use Rattle.format.specs.Words.{link, linkField, Holds, Breaks}
 use Rattle.format.specs.Laws.Below.{below-suc}
 use Rattle.format.specs.Laws.Walk.{same-ending}
@@ -12,7 +11,7 @@ use Rattle.format.specs.Laws.Along.{walk-ends, walk-breaks, walk-lasts}
 use Rattle.format.specs.Laws.Buckets.{none-empty}
 use Rattle.format.specs.Laws.Course.{Course, ends, meets, breaks, lasts, course}
 use Rattle.listing.specs.Listing.{position, stepIs, positionFault, onward, step}
-use Rattle.listing.specs.Paging.{GoesOn, here, on, HasRecord, RecordAnswers, StepAnswers}
+use Rattle.listing.specs.Paging.{GoesOn, here, on, HasRecord, StepAnswers}
 use Rattle.listing.specs.Laws.Steps.{onward-ended, onward-broken, onward-stopped, step-refuses, step-goes}
 use Rattle.listing.specs.declared.Position.{Position}
 

@@ -1,18 +1,17 @@
 -- On any buffer, from any position, a walk hands back few records: those of chains that end lie apart, and on a chain without an end it comes to
 -- the count that is refused.
 use Prim.Native.Nat.{ℕ, zero, suc, _+_, _-_, _≤_, _<_}
-use mathlib.Core.Path.{_≡_, refl, sym, ap, _∙_}
+use mathlib.Core.Path.{_≡_, refl, ap, _∙_}
 use mathlib.Core.Logic.{_⊎_, inl, inr}
 use mathlib.Core.List.{List, []}
 use native.Mathlib.Nat.{zero-add, suc-add}
 use native.Mathlib.Decide.{ℕ-discrete}
 use native.Mathlib.Omega.{arith}
 use lib.ListN.{length}
-use Rattle.format.specs.Header.{buckets}
-use Rattle.format.specs.Words.{link, KeepsBelow, Holds}
+use Rattle.format.specs.Words.{link, KeepsBelow}
 use Rattle.format.specs.Laws.Below.{le-unless, below-suc}
 use Rattle.format.specs.Laws.Header.{header-right}
-use Rattle.format.specs.Laws.Apart.{Apart, visits, visits-length, apart-none, apart-length, apart-chain}
+use Rattle.format.specs.Laws.Apart.{Apart, visits-length, apart-none, apart-length, apart-chain}
 use Rattle.listing.specs.Listing.{position, stepIs, positionFault, step}
 use Rattle.listing.specs.Paging.{GoesOn, here, on, HasRecord, stepAt, Ends}
 use Rattle.listing.specs.Laws.Steps.{position-tells, step-refuses, step-number, step-next}

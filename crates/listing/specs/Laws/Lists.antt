@@ -6,7 +6,7 @@ use native.Mathlib.Nat.{add-zero, zero-add}
 use native.Mathlib.Omega.{arith}
 use lib.ListN.{length, getD}
 use Rattle.format.specs.Header.{buckets}
-use Rattle.format.specs.Words.{link, KeepsBelow, Holds, Breaks, OnChain, Accepted, Lengths, sum}
+use Rattle.format.specs.Words.{link, Holds, Breaks, OnChain, Accepted, Lengths, sum}
 use Rattle.format.specs.Laws.Faults.{same-number}
 use Rattle.format.specs.Laws.Header.{header-right}
 use Rattle.format.specs.Laws.Rules.{tables-right}

@@ -15,6 +15,7 @@ use Rattle.listing.specs.Paging.{allRecords, Pages}
 use Rattle.listing.specs.Laws.Order.{records-length}
 use Rattle.listing.specs.Laws.Lists.{each-once, lists-all}
 use Rattle.listing.specs.Laws.Ends.{ends}
+use Rattle.listing.specs.Laws.Endless.{endless}
 
 module _ (s : List ℕ) where
   as-many : Accepted s → (f : ℕ → ℕ) → Lengths s (buckets s) f → length (allRecords s f) ≡ check s .icons
@@ -24,4 +25,4 @@ module _ (s : List ℕ) where
   opens k c = rw zero-add at (walk-opens s [] k 0 (suc c))
 
 pub pages : (s : List ℕ) → Pages s
-pages s = record { each-once = each-once; as-many = as-many s; lists = lists-all; ends = ends s; opens = opens s }
+pages s = record { each-once = each-once; as-many = as-many s; lists = lists-all; ends = ends s; endless = endless s; opens = opens s }

@@ -1,18 +1,17 @@
 -- A step, one law for each way it can go.
 use Prim.Native.Nat.{ℕ, suc, _-_, _≤_, _<_}
-use mathlib.Core.Path.{_≡_, refl, sym, ap, _∙_}
+use mathlib.Core.Path.{_≡_, ap, _∙_}
 use mathlib.Core.List.{List, []}
-use mathlib.Core.Bool.{true, false, not, _&&_, and-eq-true-iff}
+use mathlib.Core.Bool.{and-eq-true-iff}
 use borrow.Author.Tests.{lt-ltb, le-ltb, le-leb, lt-leb, ltb-true, leb-true, not-false}
 use lib.ListN.{length}
-use lib.Dec.{ltb}
-use Rattle.format.specs.Fault.{fault, noFault, given}
+use Rattle.format.specs.Fault.{fault, noFault}
 use Rattle.format.specs.Header.{headerFault, buckets, bucketField}
 use Rattle.format.specs.Chain.{walk}
 use Rattle.format.specs.declared.Fault.{Fault}
 use Rattle.format.specs.declared.Ending.the-variants.{Ended, Met, Broken, Stopped}
 use Rattle.format.specs.Laws.Faults.{orElse-first, orElse-next, orElse-none, given-none, kept-takes, broken-takes}
-use Rattle.listing.specs.Listing.{position, stepIs, positionRight, positionFault, onward, step}
+use Rattle.listing.specs.Listing.{position, stepIs, positionFault, onward, step}
 use Rattle.listing.specs.declared.Position.{Position}
 use Rattle.listing.specs.declared.Step.{Step}
 

@@ -5,7 +5,6 @@ use Prim.Native.Nat.{ℕ, suc, _+_, _-_, _≤_}
 use mathlib.Core.Path.{_≡_, refl, ap, sym, _∙_}
 use mathlib.Core.Logic.{_⊎_}
 use mathlib.Core.List.{List, []}
-use native.Mathlib.Nat.{sub-zero}
 use native.Mathlib.Numerals.{add-one}
 use native.Mathlib.Omega.{arith}
 use borrow.Author.Needs.{needs}
@@ -15,6 +14,7 @@ use denote.Enum.Declared.{tagOf}
 use Rattle.format.proofs.Ending.{the-type}
 use Rattle.format.specs.Header.{buckets, bucketField}
 use Rattle.format.specs.Chain.{walk}
+use Rattle.format.specs.declared.Walk.{Walk}
 use Rattle.format.specs.declared.Ending.{Ending}
 use Rattle.format.specs.Laws.Header.{header-right}
 use Rattle.format.specs.Laws.Walk.{same-ending}
@@ -47,12 +47,15 @@ turn c =
     let more : n - l .loop .bucket ≡ suc (n - (l .loop .bucket + 1)) = omega arith in
     rw more at (l .loop .inv .2)
 
+within : (s : List ℕ) (k n c : ℕ) {w : Walk} → w ≡ walk n s [] k (bucketField s k) 0 → n ≡ suc c → walk (suc c) s [] k (bucketField s k) 0 .ending ≡ w .ending
+within s k n c e q = sym (rw q at (same-ending e))
+
 -- how the walk of a turn ends
 walked : (c : tie.After-walk-within Inv-loop μ-loop)
     → let l = c .before .before .before in
     let s = now (l .before .before .args .cache) in
     walk (suc (l .loop .passed)) s [] (l .loop .bucket) (bucketField s (l .loop .bucket)) 0 .ending ≡ c .walk-within .result .ending
-walked c = sym (rw (sub-zero, add-one) at (same-ending (c .walk-within .ensures)))
+walked c = within _ _ _ _ (c .walk-within .ensures) (omega arith)
 
 -- a walk that neither breaks nor stops: the next bucket is tried
 passed : (s : List ℕ) (q : Position) (n k c : ℕ) (e : Ending)
