@@ -2,7 +2,8 @@
 //!
 //! It goes another way than the library. It collects a whole chain first and
 //! remembers each offset on it; a chain that comes back to one of them never
-//! ends. No steps are counted. The records are judged afterwards, in order.
+//! ends. No steps are counted; what stands at a count on such a chain is reckoned.
+//! The records are judged afterwards, in order.
 
 use std::collections::HashSet;
 
@@ -38,6 +39,21 @@ pub struct Path {
     pub number: u32,
     pub start: usize,
     pub length: usize,
+}
+
+/// A bucket, and how many records of its chain are passed.
+#[derive(Clone, Copy, Debug, PartialEq, Eq)]
+pub struct Position {
+    pub bucket: usize,
+    pub count: usize,
+}
+
+#[derive(Clone, Copy, Debug, PartialEq, Eq)]
+pub struct Step {
+    pub number: u32,
+    pub place: usize,
+    pub record: usize,
+    pub position: Position,
 }
 
 /// The first fault in the order of checks.
@@ -162,8 +178,8 @@ enum ChainEnd {
     Ended,
     /// This field names a record that is not wholly inside.
     Outside { field: usize },
-    /// The next record was met before.
-    Repeats,
+    /// The next record was met before, as the one of this number from 0 on.
+    Repeats { from: usize },
 }
 
 fn chain(cache: &[u8], bucket_field: usize) -> Chain {
@@ -179,7 +195,8 @@ fn chain(cache: &[u8], bucket_field: usize) -> Chain {
             break ChainEnd::Outside { field };
         }
         if !visited.insert(record) {
-            break ChainEnd::Repeats;
+            let from = records.iter().take_while(|&&met| met != record).count();
+            break ChainEnd::Repeats { from };
         }
         records.push(record);
         // A record begins with its CHAIN_OFFSET.
@@ -263,7 +280,7 @@ pub fn check(cache: &[u8]) -> Check {
         match chain.end {
             ChainEnd::Ended => {}
             ChainEnd::Outside { field } => return refused(fault(7, field), icons),
-            ChainEnd::Repeats => return refused(fault(12, bucket_field), cache.len() - 10),
+            ChainEnd::Repeats { .. } => return refused(fault(12, bucket_field), cache.len() - 10),
         }
     }
     Check {
@@ -304,7 +321,7 @@ pub fn lookup(cache: &[u8], name: &[u8], words: &mut [u32]) -> Lookup {
     match chain.end {
         ChainEnd::Ended => refused(fault(30, 0), length),
         ChainEnd::Outside { field } => refused(fault(7, field), length),
-        ChainEnd::Repeats => refused(fault(12, bucket_field), cache.len() - 10),
+        ChainEnd::Repeats { .. } => refused(fault(12, bucket_field), cache.len() - 10),
     }
 }
 
@@ -357,6 +374,62 @@ fn find_path(cache: &[u8], index: usize) -> Result<(usize, usize), Fault> {
     path(cache, &tables, index)
 }
 
+pub fn list(cache: &[u8], position: Position) -> Step {
+    let (number, place, record, position) = match next_record(cache, position) {
+        Ok(Some((record, after))) => (0, 0, record, after),
+        Ok(None) => (28, 0, 0, position),
+        Err(fault) => (fault.number, fault.place, 0, position),
+    };
+    Step {
+        number,
+        place,
+        record,
+        position,
+    }
+}
+
+/// The next record and the position after it.
+fn next_record(cache: &[u8], position: Position) -> Result<Option<(usize, Position)>, Fault> {
+    let tables = tables(cache)?;
+    if position.bucket >= tables.buckets || position.count > cache.len() - 11 {
+        return Err(fault(26, 0));
+    }
+    let mut passed = position.count;
+    for bucket in position.bucket..tables.buckets {
+        if let Some(record) = record_after(cache, &tables, bucket, passed)? {
+            let count = passed + 1;
+            return Ok(Some((record, Position { bucket, count })));
+        }
+        passed = 0;
+    }
+    Ok(None)
+}
+
+/// The record that follows on so many of the bucket's chain, unless the chain has
+/// no more. It and those before it are judged.
+fn record_after(
+    cache: &[u8],
+    tables: &Tables,
+    bucket: usize,
+    passed: usize,
+) -> Result<Option<usize>, Fault> {
+    let Chain { records, end } = chain(cache, tables.bucket_field(bucket));
+    for &record in records.iter().take(passed + 1) {
+        icon(cache, tables, bucket, record)?;
+    }
+    if passed < records.len() {
+        return Ok(Some(records[passed]));
+    }
+    match end {
+        ChainEnd::Ended => Ok(None),
+        ChainEnd::Outside { field } => Err(fault(7, field)),
+        ChainEnd::Repeats { from } => {
+            let round = &records[from..];
+            Ok(Some(round[(passed - from) % round.len()]))
+        }
+    }
+}
+
 /// How many directories and buckets there are, if none of 1 to 5 stands.
 pub fn sizes(cache: &[u8]) -> Option<(usize, usize)> {
     let tables = tables(cache).ok()?;
@@ -377,4 +450,16 @@ pub fn names(cache: &[u8]) -> Vec<&[u8]> {
         }
     }
     names
+}
+
+/// How many records the chain of each bucket has; those of an endless one count
+/// once. Not every test asks.
+#[allow(dead_code)]
+pub fn chain_lengths(cache: &[u8]) -> Vec<usize> {
+    let Ok(tables) = tables(cache) else {
+        return Vec::new();
+    };
+    (0..tables.buckets)
+        .map(|bucket| chain(cache, tables.bucket_field(bucket)).records.len())
+        .collect()
 }

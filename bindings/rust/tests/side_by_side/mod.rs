@@ -111,6 +111,26 @@ impl<'a> Pair<'a> {
         Ok(reader)
     }
 
+    /// Not every test walks.
+    #[allow(dead_code)]
+    pub fn list(&self, position: reader::Position) -> Result<reader::Step, Difference> {
+        let reader::Position { bucket, count } = position;
+        let answer = raw::list(self.lent, raw::Position { bucket, count });
+        let library = reader::Step {
+            number: answer.number,
+            place: answer.place,
+            record: answer.record,
+            position: reader::Position {
+                bucket: answer.position.bucket,
+                count: answer.position.count,
+            },
+        };
+        let reader = reader::list(&self.copy, position);
+        let call = || format!("list from bucket {bucket} with {count} passed");
+        self.agree(call, library, reader)?;
+        Ok(reader)
+    }
+
     /// Where the path given lies in the lent buffer: a copy of it shows.
     fn safe_directory(&self, index: usize) -> Result<(usize, usize), Refusal> {
         let path = icon_cache::directory(self.lent, index)?;
