@@ -9,11 +9,13 @@ mod generator;
 mod reader;
 mod side_by_side;
 
-use generator::{damage, name_in_bucket, name_of_hash, series, Random, Sound};
+use generator::{damage, name_in_bucket, name_of_hash, positions, series, Random, Sound};
+use reader::{Position, Step};
 use side_by_side::{Difference, Pair};
 use std::collections::HashSet;
 use std::env;
 use std::hash::{DefaultHasher, Hash, Hasher};
+use std::iter;
 use std::sync::atomic::{AtomicBool, AtomicU64, Ordering};
 use std::thread;
 use std::time::Instant;
@@ -34,6 +36,15 @@ const LANES: u64 = 16;
 /// Above this length only a few questions are asked.
 const LARGE: usize = 100_000;
 
+/// The most records of a walk over an accepted cache. Each step passes those before
+/// it on its chain again, so the cost grows with their square. Only the longest of
+/// the chains on purpose have more.
+const WALK: usize = 300;
+
+/// The most records of a walk over a refused cache, where it may never end. Most
+/// endless chains are gone round twice by then.
+const WALK_REFUSED: usize = 40;
+
 #[test]
 fn the_library_agrees_with_the_reader() {
     let seed = from_environment("ICON_CACHE_SEED", SEED);
@@ -47,6 +58,7 @@ fn the_library_agrees_with_the_reader() {
     counts.print();
     println!("in {:.1?}", start.elapsed());
     counts.demand_every_answer();
+    counts.steps.demand_all();
     counts.on_purpose.demand_large_ones();
     assert!(counts.different() >= buffers, "too few different buffers");
 }
@@ -212,7 +224,8 @@ impl<'a> Comparison<'a> {
 
     fn ask_all(&mut self, lent: &[u8]) -> Result<(), Difference> {
         let pair = Pair::new(lent);
-        self.counts.check[pair.check()?.number as usize] += 1;
+        let check = pair.check()?;
+        self.counts.check[check.number as usize] += 1;
         for (i, name) in self.queries(lent).iter().enumerate() {
             self.ask_lookup(&pair, name, i == 0)?;
         }
@@ -222,7 +235,87 @@ impl<'a> Comparison<'a> {
             let answer = pair.directory_path(index)?;
             self.counts.path[answer.number as usize] += 1;
         }
+        let chains = reader::chain_lengths(lent);
+        self.ask_steps(&Listed {
+            pair,
+            check,
+            chains,
+            length: lent.len(),
+        })
+    }
+
+    /// Walks from the start on, then steps twice from each of some positions.
+    fn ask_steps(&mut self, cache: &Listed) -> Result<(), Difference> {
+        let Listed { chains, length, .. } = cache;
+        let positions = if *length > LARGE {
+            positions::few(&mut self.random, *length, chains)
+        } else {
+            self.walk(cache)?;
+            positions::many(&mut self.random, *length, chains)
+        };
+        for position in positions {
+            let step = self.step(cache, position)?;
+            if step.number == 0 {
+                let next = self.step(cache, step.position)?;
+                let largest = step.position.count == length - 10 && next.number == 26;
+                self.counts.steps.note(Met::LargestCount, largest);
+            }
+        }
         Ok(())
+    }
+
+    /// Steps from the start on.
+    fn walk(&mut self, cache: &Listed) -> Result<(), Difference> {
+        let reader::Check { number, icons, .. } = cache.check;
+        let most = match number {
+            0 => WALK,
+            _ => WALK_REFUSED.min(2 * cache.chains.iter().sum::<usize>()),
+        };
+        let mut records = Vec::new();
+        let mut step = self.step(cache, positions::START)?;
+        while step.number == 0 && records.len() < most {
+            records.push(step.record);
+            step = self.step(cache, step.position)?;
+        }
+        let whole = number == 0 && icons <= most;
+        self.counts.steps.note(Met::WholeWalk, whole);
+        if whole {
+            demand_each_once(&records, step.number, icons)?;
+        }
+        let shared = step.number == 9 && records.contains(&(step.place - 4));
+        self.counts.steps.note(Met::SharedRecord, shared);
+        if (7..=11).contains(&step.number) {
+            self.step_behind_fault(cache, &step)?;
+        }
+        Ok(())
+    }
+
+    /// From behind a record at fault a step meets it as well.
+    fn step_behind_fault(&mut self, cache: &Listed, fault: &Step) -> Result<(), Difference> {
+        let mut behind = fault.position;
+        behind.count += 1;
+        let step = self.step(cache, behind)?;
+        let same = (step.number, step.place) == (fault.number, fault.place);
+        let between = (2..cache.chains[behind.bucket]).contains(&behind.count);
+        self.counts.steps.note(Met::FaultBetween, same && between);
+        Ok(())
+    }
+
+    fn step(&mut self, cache: &Listed, from: Position) -> Result<Step, Difference> {
+        let step = cache.pair.list(from)?;
+        self.counts.list[step.number as usize] += 1;
+        let steps = &mut self.counts.steps;
+        if step.number == 0 {
+            let bucket = step.position.bucket;
+            steps.note(Met::EmptyBuckets, bucket > from.bucket + 1);
+            let behind = from.count >= cache.chains[from.bucket];
+            steps.note(Met::RecordAgain, behind && bucket == from.bucket);
+        }
+        if step.number == 28 {
+            steps.note(Met::PathAtFault, cache.check.number == 6);
+            steps.note(Met::FaultBefore, (7..=12).contains(&cache.check.number));
+        }
+        Ok(step)
     }
 
     /// Asks with no room, too little, just enough and more.
@@ -287,6 +380,15 @@ impl<'a> Comparison<'a> {
     }
 }
 
+/// A cache to step through, and what the reader tells of it.
+struct Listed<'a> {
+    pair: Pair<'a>,
+    check: reader::Check,
+    /// How many records each chain has.
+    chains: Vec<usize>,
+    length: usize,
+}
+
 /// Takes all damages of a cache with few records, and every so many of one with
 /// many: both the number of damages and the work on each grow with the records.
 struct Thinned {
@@ -344,6 +446,21 @@ fn with_zero_byte(random: &mut Random, there: &[&[u8]]) -> Vec<u8> {
     name
 }
 
+/// The walk over an accepted cache hands back each record that the check counts.
+fn demand_each_once(records: &[usize], number: u32, icons: usize) -> Result<(), Difference> {
+    let different: HashSet<_> = records.iter().collect();
+    let walk = (records.len(), different.len(), number);
+    let expected = (icons, icons, 28);
+    if walk == expected {
+        return Ok(());
+    }
+    Err(Difference {
+        call: "walk: records, different ones, the last number".into(),
+        library: format!("{walk:?}"),
+        reader: format!("{expected:?} by the check"),
+    })
+}
+
 /// The maker keeps its word: the reader finds all that was put in.
 fn demand_sound(sound: &Sound) {
     let icons = sound.names.len();
@@ -360,6 +477,20 @@ fn demand_sound(sound: &Sound) {
         "{}",
         hex(&sound.bytes)
     );
+    assert_eq!(
+        walked(&sound.bytes),
+        sound.records(),
+        "{}",
+        hex(&sound.bytes)
+    );
+}
+
+/// The buckets and records of the reader's steps from the start on.
+fn walked(cache: &[u8]) -> Vec<(usize, usize)> {
+    let step = |from| Some(reader::list(cache, from)).filter(|step| step.number == 0);
+    let steps = iter::successors(step(positions::START), |before| step(before.position));
+    let records = steps.map(|step| (step.position.bucket, step.record));
+    records.collect()
 }
 
 fn report(what: &str, lent: &[u8], difference: &Difference) -> String {
@@ -409,6 +540,69 @@ impl OnPurpose {
     }
 }
 
+/// What steps meet and their answer numbers do not tell.
+#[derive(Clone, Copy, Debug)]
+enum Met {
+    /// A walk over all records of an accepted cache.
+    WholeWalk,
+    /// Empty buckets before the record.
+    EmptyBuckets,
+    /// A record of an endless chain, handed back once more.
+    RecordAgain,
+    /// The largest count, answered and then refused.
+    LargestCount,
+    /// A record at fault, from a position before it and one behind it, with
+    /// records of its chain on either side.
+    FaultBetween,
+    /// A record at fault that another chain has handed back.
+    SharedRecord,
+    /// The end, in a cache with a path at fault.
+    PathAtFault,
+    /// The end, in a cache with a lower bucket at fault.
+    FaultBefore,
+}
+
+impl Met {
+    const ALL: [Met; 8] = [
+        Met::WholeWalk,
+        Met::EmptyBuckets,
+        Met::RecordAgain,
+        Met::LargestCount,
+        Met::FaultBetween,
+        Met::SharedRecord,
+        Met::PathAtFault,
+        Met::FaultBefore,
+    ];
+}
+
+/// How often steps met each.
+#[derive(Default)]
+struct Steps([u64; 8]);
+
+impl Steps {
+    fn note(&mut self, what: Met, met: bool) {
+        self.0[what as usize] += u64::from(met);
+    }
+
+    fn add(&mut self, other: &Steps) {
+        for (sum, more) in self.0.iter_mut().zip(other.0) {
+            *sum += more;
+        }
+    }
+
+    fn print(&self) {
+        for what in Met::ALL {
+            println!("list met {what:?} {} times", self.0[what as usize]);
+        }
+    }
+
+    fn demand_all(&self) {
+        for what in Met::ALL {
+            assert!(self.0[what as usize] > 0, "list never met {what:?}");
+        }
+    }
+}
+
 /// How often each answer number was met, by call.
 #[derive(Default)]
 struct Counts {
@@ -422,6 +616,8 @@ struct Counts {
     lookup: [u64; 31],
     directory: [u64; 31],
     path: [u64; 31],
+    list: [u64; 31],
+    steps: Steps,
 }
 
 impl Counts {
@@ -441,11 +637,13 @@ impl Counts {
         self.met.extend(&other.met);
         self.sound += other.sound;
         self.on_purpose.add(&other.on_purpose);
+        self.steps.add(&other.steps);
         for (sum, more) in [
             (&mut self.check, &other.check),
             (&mut self.lookup, &other.lookup),
             (&mut self.directory, &other.directory),
             (&mut self.path, &other.path),
+            (&mut self.list, &other.list),
         ] {
             for (sum, more) in sum.iter_mut().zip(more) {
                 *sum += more;
@@ -454,14 +652,16 @@ impl Counts {
     }
 
     /// The counts of each call, and the numbers it can answer.
-    fn calls(&self) -> [(&str, &[u64; 31], Vec<usize>); 4] {
+    fn calls(&self) -> [(&str, &[u64; 31], Vec<usize>); 5] {
         let lookup = [0, 1, 2, 3, 4, 5, 7, 8, 9, 10, 11, 12, 13, 14, 30];
         let directory = [0, 1, 2, 3, 4, 5, 6, 15];
+        let list = [0, 1, 2, 3, 4, 5, 7, 8, 9, 10, 11, 26, 28];
         [
             ("check", &self.check, (0..=12).collect()),
             ("lookup", &self.lookup, lookup.into()),
             ("directory", &self.directory, directory.into()),
             ("path", &self.path, directory.into()),
+            ("list", &self.list, list.into()),
         ]
     }
 
@@ -475,12 +675,13 @@ impl Counts {
         } = self.on_purpose;
         println!("{} made sound, {caches} damaged on purpose", self.sound);
         println!("with up to {directories} directories and {buckets} buckets");
-        println!("answer       check      lookup   directory        path");
-        for number in (0..=15).chain([30]) {
+        println!("answer       check      lookup   directory        path        list");
+        for number in (0..=15).chain([26, 28, 30]) {
             let counts = self.calls().map(|(_, counts, _)| counts[number]);
             let columns = counts.map(|count| format!("{count:>12}"));
             println!("{number:>6}{}", columns.concat());
         }
+        self.steps.print();
     }
 
     fn demand_every_answer(&self) {
