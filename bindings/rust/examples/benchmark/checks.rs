@@ -39,7 +39,7 @@ fn measure(bytes: &[u8], icons: usize, round: usize) -> Seconds {
 /// Seconds for each call, and the sum of what the calls answer. For all that the
 /// compiler knows, each call is given another buffer.
 #[inline(never)]
-fn repeat(calls: usize, bytes: &[u8], mut call: impl FnMut(&[u8]) -> usize) -> (f64, usize) {
+pub fn repeat(calls: usize, bytes: &[u8], mut call: impl FnMut(&[u8]) -> usize) -> (f64, usize) {
     time(calls, || {
         (0..calls)
             .map(|_| black_box(call(black_box(bytes))))

@@ -1,5 +1,5 @@
-//! Measures the lookup and the check, beside a reader without checks, the
-//! independent reader of the tests, and memcpy:
+//! Measures the lookup, the check and the listing, beside a reader without
+//! checks, the independent reader of the tests, and memcpy:
 //!
 //! `cargo run --offline --release --example benchmark`
 
@@ -14,12 +14,14 @@ mod reader;
 mod caches;
 mod checks;
 mod hostile;
+mod lists;
 mod lookups;
 mod measure;
 mod table;
 mod unchecked;
 
-use measure::Rounds;
+use caches::Cache;
+use measure::{Rounds, Row};
 use std::time::{Duration, Instant};
 
 /// The benchmark ends soon after, on a slow machine too.
@@ -28,28 +30,32 @@ const ROUNDS: usize = 25;
 
 fn main() {
     let start = Instant::now();
+    let caches = caches::all();
     table::print_head();
-    measure_side_by_side();
+    let rows = measure_side_by_side(&caches);
     hostile::measure_all(start + AT_MOST, table::print);
+    lists::print_costs(&caches, &rows);
     println!("\nin {:.0} seconds", start.elapsed().as_secs_f64());
 }
 
 /// The rounds of all rows take turns, so that a slow time of the machine doesn't
 /// meet all rounds of one row.
-fn measure_side_by_side() {
-    let caches = caches::all();
+fn measure_side_by_side(caches: &[Cache]) -> Vec<Row> {
     let mut rows: Vec<Rounds> = Vec::new();
-    for cache in &caches {
+    for cache in caches {
         rows.push(lookups::hits(cache));
         rows.push(lookups::misses(cache));
         rows.push(checks::check(cache));
+        rows.push(lists::list(cache));
     }
     for round in 0..ROUNDS {
         for row in &mut rows {
             row.measure(round);
         }
     }
+    let rows: Vec<Row> = rows.iter().map(Rounds::row).collect();
     for row in &rows {
-        table::print(&row.row());
+        table::print(row);
     }
+    rows
 }
