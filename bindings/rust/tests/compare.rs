@@ -272,7 +272,7 @@ impl<'a> Comparison<'a> {
             _ => WALK_REFUSED.min(2 * cache.chains.iter().sum::<usize>()),
         };
         let mut records = Vec::new();
-        let mut step = self.step(cache, positions::START)?;
+        let mut step = self.step(cache, Position::START)?;
         while step.number == 0 && records.len() < most {
             records.push(step.record);
             step = self.step(cache, step.position)?;
@@ -488,7 +488,7 @@ fn demand_sound(sound: &Sound) {
 /// The buckets and records of the reader's steps from the start on.
 fn walked(cache: &[u8]) -> Vec<(usize, usize)> {
     let step = |from| Some(reader::list(cache, from)).filter(|step| step.number == 0);
-    let steps = iter::successors(step(positions::START), |before| step(before.position));
+    let steps = iter::successors(step(Position::START), |before| step(before.position));
     let records = steps.map(|step| (step.position.bucket, step.record));
     records.collect()
 }

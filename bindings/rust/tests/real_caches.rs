@@ -7,6 +7,7 @@ mod reader;
 mod side_by_side;
 
 use icon_cache::{check, lookup, records, Checked, Record, Refusal};
+use reader::Position;
 use side_by_side::Pair;
 use std::collections::{HashMap, HashSet};
 
@@ -32,7 +33,7 @@ fn walk(cache: &[u8], icons: usize, directories: usize) {
 
     let names = reader::names(cache);
     assert_eq!(names.len(), icons);
-    list(cache, &names);
+    list(&pair, cache, &names);
     for name in names {
         ask_name(&pair, name);
     }
@@ -45,14 +46,22 @@ fn walk(cache: &[u8], icons: usize, directories: usize) {
     assert_eq!(pair.directory(directories).unwrap().number, 15);
 }
 
-/// Each record comes once, and a lookup finds the first of its name.
-fn list(cache: &[u8], names: &[&[u8]]) {
+/// Each record comes once, step by step and from the iterator, and a lookup finds
+/// the first of its name.
+fn list(pair: &Pair, cache: &[u8], names: &[&[u8]]) {
     let listed: Result<Vec<Record>, Refusal> = records(cache).collect();
     let listed = listed.unwrap();
     assert!(listed
         .iter()
         .map(|record| record.name)
         .eq(names.iter().copied()));
+    let mut position = Position::START;
+    for record in &listed {
+        let step = pair.list(position).unwrap();
+        assert_eq!((step.number, step.record), (0, record.offset));
+        position = step.position;
+    }
+    assert_eq!(pair.list(position).unwrap().number, 28);
     let offsets: HashSet<usize> = listed.iter().map(|record| record.offset).collect();
     assert_eq!(offsets.len(), listed.len());
 

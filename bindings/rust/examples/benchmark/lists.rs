@@ -2,7 +2,6 @@
 
 use crate::caches::Cache;
 use crate::checks::repeat;
-use crate::generator::positions;
 use crate::measure::{in_turn, Rounds, Row, Seconds, LIBRARY, READER, READERS};
 use crate::reader;
 use icon_cache::raw;
@@ -41,7 +40,7 @@ fn by_library(cache: &[u8]) -> usize {
 }
 
 fn by_reader(cache: &[u8]) -> usize {
-    walk(positions::START, |from| {
+    walk(reader::Position::START, |from| {
         let step = black_box(reader::list(cache, from));
         (step.number, step.position)
     })

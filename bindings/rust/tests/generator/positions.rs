@@ -3,12 +3,6 @@
 use super::Random;
 use crate::reader::Position;
 
-/// Before the first record.
-pub const START: Position = Position {
-    bucket: 0,
-    count: 0,
-};
-
 /// These are 0 in 32 bits, and after a multiplication by 4.
 const WRAPPING: [usize; 2] = [(u32::MAX as usize).wrapping_add(1), usize::MAX / 4 + 1];
 
@@ -39,9 +33,9 @@ pub fn many(random: &mut Random, length: usize, chains: &[usize]) -> Vec<Positio
 /// For a cache in which each step takes its time.
 pub fn few(random: &mut Random, length: usize, chains: &[usize]) -> Vec<Position> {
     match a_chain(random, chains) {
-        None => vec![START],
+        None => vec![Position::START],
         Some((bucket, records)) => vec![
-            START,
+            Position::START,
             at(bucket, records.saturating_sub(1)),
             at(bucket, length - 11),
             at(chains.len(), 0),

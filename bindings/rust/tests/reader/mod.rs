@@ -48,6 +48,14 @@ pub struct Position {
     pub count: usize,
 }
 
+impl Position {
+    /// Before the first record.
+    pub const START: Position = Position {
+        bucket: 0,
+        count: 0,
+    };
+}
+
 #[derive(Clone, Copy, Debug, PartialEq, Eq)]
 pub struct Step {
     pub number: u32,
@@ -428,6 +436,11 @@ fn record_after(
             Ok(Some(round[(passed - from) % round.len()]))
         }
     }
+}
+
+/// The name of a record that was handed back.
+pub fn name(cache: &[u8], record: usize) -> &[u8] {
+    string(cache, number(cache, record + 4, 4), 255).expect("the record was judged")
 }
 
 /// How many directories and buckets there are, if none of 1 to 5 stands.

@@ -3,7 +3,7 @@
 //! same in their own words.
 
 use crate::reader;
-use icon_cache::{raw, Checked, Found, Image, Refusal};
+use icon_cache::{raw, Checked, Found, Image, Record, Refusal};
 use std::fmt::{self, Debug};
 
 /// Words beyond the room on either side, which no call may touch.
@@ -111,8 +111,6 @@ impl<'a> Pair<'a> {
         Ok(reader)
     }
 
-    /// Not every test walks.
-    #[allow(dead_code)]
     pub fn list(&self, position: reader::Position) -> Result<reader::Step, Difference> {
         let reader::Position { bucket, count } = position;
         let answer = raw::list(self.lent, raw::Position { bucket, count });
@@ -128,7 +126,22 @@ impl<'a> Pair<'a> {
         let reader = reader::list(&self.copy, position);
         let call = || format!("list from bucket {bucket} with {count} passed");
         self.agree(call, library, reader)?;
+        let safe = icon_cache::records_from(self.lent, raw::Position { bucket, count }).next();
+        let call = || format!("safe {}", call());
+        self.agree(call, safe, self.handed_back(&reader))?;
         Ok(reader)
+    }
+
+    /// What the iterator over records has to give.
+    fn handed_back(&self, step: &reader::Step) -> Option<Result<Record<'_>, Refusal>> {
+        if step.number == 28 {
+            return None;
+        }
+        let record = refused(step.number, step.place, 0).map(|()| Record {
+            offset: step.record,
+            name: reader::name(&self.copy, step.record),
+        });
+        Some(record)
     }
 
     /// Where the path given lies in the lent buffer: a copy of it shows.
