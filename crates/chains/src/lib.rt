@@ -4,7 +4,6 @@ ghost use Prim.Native.Nat.{_-_, _≤_, _<_};
 ghost use lib.ListN.{length};
 ghost use Rattle.format.specs.Header.{buckets, bucketField};
 ghost use Rattle.format.specs.Record.{bucketOf};
-ghost use Rattle.format.specs.Chain.{walkBucket};
 ghost use Rattle.format.specs.Chain as definition;
 ghost use Rattle.tables.specs.Tables.{Right};
 use bigendian::u32_at;
@@ -19,7 +18,7 @@ use tables::bucket_field;
 // call has opened then, `earlier` of them before it and at most `limit` in all. No record that keeps rule 8 bears the empty name, so with that
 // the walk goes on until the chain ends or no more records may be opened. A name is compared before it is judged: the wanted one keeps rules 8
 // and 9.
-pub fn walk_within(
+pub fn walk(
     cache: &[u8],
     t: Tables,
     bucket: usize,
@@ -70,14 +69,4 @@ pub fn walk_within(
         ending: Ending::Stopped(field),
         opened,
     }
-}
-
-// The same walk where L - 10 records may be opened in all, one more than chains that end can hold together: a chain that it stops on never ends.
-pub fn walk(cache: &[u8], t: Tables, bucket: usize, wanted: &[u8], earlier: usize) -> Walk
-    requires { ⌜ Right (now cache) t ⌝ }
-    requires { ⌜ bucket < buckets (now cache) ⌝ }
-    requires { ⌜ (length (now wanted) ≤ 255) × (0 < length (now wanted) → bucketOf (now cache) (now wanted) ≡ bucket) ⌝ }
-    ensures { λ r. ⌜ r ≡ walkBucket (now (cache .entry)) (now (wanted .entry)) bucket earlier ⌝ }
-{
-    walk_within(cache, t, bucket, wanted, earlier, cache.len() - 10)
 }

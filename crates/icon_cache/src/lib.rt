@@ -37,10 +37,11 @@ fn check_buckets(cache: &[u8], t: Tables) -> CheckAnswer
     ensures { λ r. ⌜ r ≡ checkBuckets (buckets (now (cache .entry))) (now (cache .entry)) 0 0 ⌝ }
 {
     let n = t.buckets;
+    let limit = cache.len() - 10;
     let mut k = 0;
     let mut opened = 0;
     while k < n {
-        let walk = chains::walk(cache, t, k, &cache[..0], opened);
+        let walk = chains::walk(cache, t, k, &cache[..0], opened, limit);
         opened = walk.opened;
         let ending = walk.ending;
         match ending {
@@ -148,7 +149,7 @@ pub fn lookup(cache: &[u8], name: &[u8], words: &mut [u32]) -> LookupAnswer
     }
     let t = tables::read(cache);
     let bucket = query.hash as usize % t.buckets;
-    let walk = chains::walk(cache, t, bucket, name, 0);
+    let walk = chains::walk(cache, t, bucket, name, 0, cache.len() - 10);
     let opened = walk.opened;
     let ending = walk.ending;
     match ending {

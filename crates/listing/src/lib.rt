@@ -58,7 +58,7 @@ impl Position {
         let mut passed = self.count;
         while bucket < n {
             let count = passed + 1;
-            let walk = chains::walk_within(cache, t, bucket, &cache[..0], 0, count);
+            let walk = chains::walk(cache, t, bucket, &cache[..0], 0, count);
             let ending = walk.ending;
             match ending {
                 Ending::Stopped(offset) => {

@@ -39,10 +39,10 @@ passed s n k o w p tag =
     refl)
 
 abbrev Inv-loop : tie.InvT-loop
-Inv-loop cache t n k₀ opened₀ k opened = (k ≤ n) × (checkBuckets (n - k) cache k opened ≡ checkBuckets (buckets cache) cache 0 0)
+Inv-loop cache t n limit k₀ opened₀ k opened = (k ≤ n) × (checkBuckets (n - k) cache k opened ≡ checkBuckets (buckets cache) cache 0 0)
 
 abbrev μ-loop : tie.MeasureT-loop
-μ-loop cache t n k₀ opened₀ k opened = n - k
+μ-loop cache t n limit k₀ opened₀ k opened = n - k
 
 -- a turn is one bucket more
 turn : (c : tie.In-loop Inv-loop μ-loop)
@@ -54,6 +54,9 @@ turn c =
     let n = l .before .before .args .t .buckets in
     let more : n - l .loop .k ≡ suc (n - (l .loop .k + 1)) = omega arith in
     rw more at (l .loop .inv .1)
+
+sub-limit : tie.Need-sub-limit Inv-loop μ-loop
+sub-limit c = let start = c .before in omega (arith, header-right (now (start .args .cache)) (start .pre .header) .header-inside)
 
 loop-holds : tie.Need-loop-holds Inv-loop μ-loop
 loop-holds c = (omega arith, rw (sub-zero, c .before .pre .tables))
@@ -115,6 +118,7 @@ check-buckets-spec =
     (tie.spec
     Inv-loop
     μ-loop
+    sub-limit
     loop-holds
     slice-aggregate-walk
     walk-requires

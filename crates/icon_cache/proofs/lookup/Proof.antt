@@ -121,6 +121,9 @@ cast-bucket c = search needs
 rem-bucket : tie.Need-rem-bucket
 rem-bucket c = rw (counted (c .before .before)) (header-right _ (right (c .before .before) .header) .buckets-some)
 
+sub-walk : tie.Need-sub-walk
+sub-walk c = omega (arith, header-right _ (right (c .before .before) .header) .header-inside)
+
 walk-requires : tie.Need-walk-requires
 walk-requires c κs =
     let read = c .before .before in
@@ -210,6 +213,7 @@ lookup-spec =
     read-requires
     cast-bucket
     rem-bucket
+    sub-walk
     walk-requires
     enum-known-ending
     found-requires

@@ -1,6 +1,5 @@
 -- `Position::next` meets its contract: the header and the position are judged in this order, one law for each (`position-header`,
 -- `position-no-bucket`, `position-counts-too-far`, `position-right`).
-use Prim.Native.Nat.{_≤_, _<_}
 use mathlib.Core.Path.{_≡_, ap, sym, _∙_}
 use native.Mathlib.Omega.{arith}
 use borrow.Author.Needs.{needs}

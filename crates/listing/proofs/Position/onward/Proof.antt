@@ -51,11 +51,11 @@ within : (s : List ℕ) (k n c : ℕ) {w : Walk} → w ≡ walk n s [] k (bucket
 within s k n c e q = sym (rw q at (same-ending e))
 
 -- how the walk of a turn ends
-walked : (c : tie.After-walk-within Inv-loop μ-loop)
+walked : (c : tie.After-walk Inv-loop μ-loop)
     → let l = c .before .before .before in
     let s = now (l .before .before .args .cache) in
-    walk (suc (l .loop .passed)) s [] (l .loop .bucket) (bucketField s (l .loop .bucket)) 0 .ending ≡ c .walk-within .result .ending
-walked c = within _ _ _ _ (c .walk-within .ensures) (omega arith)
+    walk (suc (l .loop .passed)) s [] (l .loop .bucket) (bucketField s (l .loop .bucket)) 0 .ending ≡ c .walk .result .ending
+walked c = within _ _ _ _ (c .walk .ensures) (omega arith)
 
 -- a walk that neither breaks nor stops: the next bucket is tried
 passed : (s : List ℕ) (q : Position) (n k c : ℕ) (e : Ending)
@@ -80,11 +80,11 @@ loop-holds c =
 add-count : tie.Need-add-count Inv-loop μ-loop
 add-count c = let start = c .before .before .before in omega (arith, header-right (now (start .args .cache)) (start .pre .0 .header) .not-too-long)
 
-slice-aggregate-walk-within : tie.Need-slice-aggregate-walk-within Inv-loop μ-loop
-slice-aggregate-walk-within c = refl
+slice-aggregate-walk : tie.Need-slice-aggregate-walk Inv-loop μ-loop
+slice-aggregate-walk c = refl
 
-walk-within-requires : tie.Need-walk-within-requires Inv-loop μ-loop
-walk-within-requires c κs =
+walk-requires : tie.Need-walk-requires Inv-loop μ-loop
+walk-requires c κs =
     let start = c .before .before .before .before in
     (start .pre .0, omega (arith, ap (λ (t : Tables). t .buckets) (start .pre .0 .tables)))
 
@@ -136,8 +136,8 @@ onward-spec =
     μ-loop
     loop-holds
     add-count
-    slice-aggregate-walk-within
-    walk-within-requires
+    slice-aggregate-walk
+    walk-requires
     enum-known-ending
     returns
     enum-known-ending-2
