@@ -8,6 +8,7 @@ use Rattle.format.specs.Fault.{given, _orElse_, ifKept}
 use Rattle.format.specs.Header.{headerFault, buckets, bucketField}
 use Rattle.format.specs.Chain.{walk}
 use Rattle.format.specs.declared.Fault.{Fault}
+use Rattle.format.specs.declared.Walk.{Walk}
 use Rattle.format.specs.declared.Ending.the-variants.{Ended, Met, Broken, Stopped}
 use Rattle.listing.specs.declared.Position.{Position}
 use Rattle.listing.specs.declared.Step.{Step}
@@ -30,12 +31,16 @@ positionRight s q = ltb (q .bucket) (buckets s) && leb (q .count) (length s - 11
 unfoldable pub positionFault : List ℕ → Position → Fault
 positionFault s q = headerFault s orElse given (not (positionRight s q)) 26 0
 
--- The answer from the chains of n buckets from bucket k on, with c records of the first passed; q is the position handed in. A walk that may
--- open c + 1 records stops on the record that is handed back, and judges it and each record passed; no record bears the empty name.
+-- The walk of bucket k's chain where c records are to be passed: it may open c + 1, so it stops on the record after them, and judges that and each
+-- record passed. No record that keeps rule 8 bears the empty name.
+abbrev pub stepWalk : List ℕ → ℕ → ℕ → Walk
+stepWalk s k c = walk (suc c) s [] k (bucketField s k) 0
+
+-- the answer from the chains of n buckets from bucket k on, with c records of the first to be passed; q is the position handed in
 unfoldable pub onward : ℕ → List ℕ → Position → ℕ → ℕ → Step
 onward zero s q k c = stepIs 28 0 0 q
 onward (suc n) s q k c =
-    elim (walk (suc c) s [] k (bucketField s k) 0 .ending) [
+    elim (stepWalk s k c .ending) [
       | Ended ↦ onward n s q (suc k) 0
       | Met r ↦ onward n s q (suc k) 0
       | Broken x p ↦ stepIs x p 0 q

@@ -5,11 +5,10 @@ use mathlib.Core.List.{List, [], _∷_, _++_}
 use mathlib.Core.Logic.{_↔_}
 use lib.ListN.{length, getD}
 use Rattle.format.specs.Fault.{fault}
-use Rattle.format.specs.Header.{headerFault, buckets, bucketField}
-use Rattle.format.specs.Chain.{walk}
+use Rattle.format.specs.Header.{headerFault, buckets}
 use Rattle.format.specs.Call.{check}
 use Rattle.format.specs.Words.{link, KeepsBelow, Holds, Breaks, OnChain, Turns, Accepted, Lengths}
-use Rattle.listing.specs.Listing.{position, start, stepIs, positionFault, step}
+use Rattle.listing.specs.Listing.{position, start, stepIs, positionFault, stepWalk, step}
 use Rattle.listing.specs.declared.Position.{Position}
 use Rattle.listing.specs.declared.Step.{Step}
 
@@ -87,4 +86,4 @@ pub record Pages (s : List ℕ) : Type 0 where
   pub lists : Accepted s → (f : ℕ → ℕ) → Lengths s (buckets s) f → Lists s (allRecords s f)
   pub ends : (q : Position) → (m : ℕ) × (m ≤ length s - 11 + (length s - 10)) × Ends s q m
   pub endless : headerFault s .number ≡ 0 → (k : ℕ) → k < buckets s → (AtTheLargestCount s k ↔ Turns s k)
-  pub opens : (k c : ℕ) → walk (suc c) s [] k (bucketField s k) 0 .opened ≤ suc c
+  pub opens : (k c : ℕ) → stepWalk s k c .opened ≤ suc c

@@ -48,7 +48,7 @@ module _ {s : List ℕ} {k n x p : ℕ} (b : Breaks s k n x p) where
       ∙ rw (lt-leb (link s k n + 12) (length s) (omega arith)) at (b .broken)
 
   -- a record that keeps the rules breaks none
-  pub broken-keeps : Keeps s k (link s k n) → ⊥
+  broken-keeps : Keeps s k (link s k n) → ⊥
   broken-keeps h = omega (arith, h .rules, same-number (broken-inside (h .inside)), b .some)
 
   pub broken-number : x ≤ 11
@@ -82,6 +82,10 @@ module _ {s : List ℕ} {k n : ℕ} (h : Holds s k n) where
   -- a link that is no end value, with none before it, lies before the end
   pub before-end : {m : ℕ} → ((i : ℕ) → i < m → link s k i ≡ endValue → ⊥) → (link s k m ≡ endValue → ⊥) → m < n
   before-end before here = lt-unless (λ e. here (rw (← e) (h .ends))) (λ l. before n l (h .ends))
+
+  -- no record on it breaks a rule
+  pub unbroken : {m x p : ℕ} → Breaks s k m x p → ⊥
+  unbroken {m} b = broken-keeps b (h .keeps m (before-end (λ i g. b .keeps i g .0) (b .real)) .1)
 
   pub on-chain : {m r : ℕ} → OnChain s k m r → (m < n) × Keeps s k r
   on-chain {m} c =

@@ -22,7 +22,7 @@ use Rattle.format.specs.declared.Ending.{Ending}
 use Rattle.format.specs.declared.LookupAnswer.{LookupAnswer}
 use Rattle.format.specs.Laws.Faults.{kept-takes, broken-takes, orElse-none, broken-speaks, kept-passes}
 use Rattle.format.specs.Laws.Header.{header-right}
-use Rattle.format.specs.Laws.Links.{Repeat, earlier, once, goes-on, never-breaks, broken-keeps, broken-number, holds-le, before-end}
+use Rattle.format.specs.Laws.Links.{Repeat, earlier, once, goes-on, never-breaks, broken-number, holds-le, before-end, unbroken}
 use Rattle.format.specs.Laws.Apart.{apart-none, apart-few, repeats}
 use Rattle.format.specs.Laws.Along.{walk-ends, walk-meets, walk-breaks, walk-lasts}
 use Rattle.format.specs.Laws.Course.{Course, ends, meets, breaks, lasts, course}
@@ -149,7 +149,7 @@ module _ (s name : List ℕ) (room : ℕ) (asks : queryFault s name .number ≡ 
     in-chain (meets {n = m} l keeps none here same) =
         let d : m < n = before-end h (λ i g. keeps i g .0) (here .0) in
         rw (found m keeps none here same) (met (InChain s name bucket n) _ _ (there d same _ refl (λ e. omega arith)) (there d same _ refl (λ e. omega arith)))
-    in-chain (breaks {n = m} l b none) = absurd (broken-keeps b (h .keeps m (before-end h (λ i g. b .keeps i g .0) (b .real)) .1))
+    in-chain (breaks l b none) = absurd (unbroken h b)
     in-chain (lasts keeps none) = absurd (keeps n (omega arith) .0 (h .ends))
 
 pub lookup-answers : (s name : List ℕ) (room : ℕ) → LookupAnswers s name room

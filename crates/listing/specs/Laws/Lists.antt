@@ -6,11 +6,11 @@ use native.Mathlib.Nat.{add-zero, zero-add}
 use native.Mathlib.Omega.{arith}
 use lib.ListN.{length, getD}
 use Rattle.format.specs.Header.{buckets}
-use Rattle.format.specs.Words.{link, Holds, Breaks, OnChain, Accepted, Lengths, sum}
+use Rattle.format.specs.Words.{link, Holds, OnChain, Accepted, Lengths, sum}
 use Rattle.format.specs.Laws.Faults.{same-number}
 use Rattle.format.specs.Laws.Header.{header-right}
 use Rattle.format.specs.Laws.Rules.{tables-right}
-use Rattle.format.specs.Laws.Links.{broken-keeps, holds-le, before-end, on-chain, chain-on}
+use Rattle.format.specs.Laws.Links.{holds-le, before-end, unbroken, on-chain, chain-on}
 use Rattle.format.specs.Laws.Buckets.{total}
 use Rattle.format.specs.Laws.Demand.{demand3}
 use Rattle.listing.specs.Listing.{position, start, stepIs, positionFault, step}
@@ -47,10 +47,6 @@ module _ {s : List ℕ} (acc : Accepted s) (f : ℕ → ℕ) (h : Lengths s (buc
       let rest = same-passed o l (omega arith) in
       omega (arith, holds-le own g)
 
-  -- no chain breaks
-  unbroken : {k n x p : ℕ} → k < buckets s → Breaks s k n x p → ⊥
-  unbroken {k} {n} l b = let own = h k l in broken-keeps b (own .keeps n (before-end own (λ i g. b .keeps i g .0) (b .real)) .1)
-
   next : {q : Position} {n : ℕ} → Stands s f q n → Next s f q n
   next {q} {n} t = go (ahead s q (omega (arith, t .bucket)))
     where
@@ -68,7 +64,7 @@ module _ {s : List ℕ} (acc : Accepted s) (f : ℕ → ℕ) (h : Lengths s (buc
           (omega (arith, t .passed, sum-before s f (buckets s) (a .0)))
           (rw at-n (r .bucket, r .count, chain-on own less, given))
           (rw (step-next given) (record { bucket = a .0; count = less; passed = omega (arith, t .passed) }))
-      go (break-ahead g l c b) = absurd (unbroken l b)
+      go (break-ahead {r = r} g l c b) = absurd (unbroken (h (r .bucket) l) b)
       go (nothing-ahead {r = r} g e) = done (omega (arith, same-passed g (omega arith) (t .count), t .passed, ap (sum f) e)) (answers .done g e)
 
   step-record : (n : ℕ) {q : Position} {m : ℕ} → Stands s f q m → m + n < sum f (buckets s) → HandsBack s (stepAt n s q) (getD (allRecords s f) (m + n) 0)

@@ -4,13 +4,13 @@ use mathlib.Core.Path.{_≡_, sym, ap, _∙_}
 use mathlib.Core.List.{List, []}
 use native.Mathlib.Nat.{zero-add}
 use lib.ListN.{length}
-use Rattle.format.specs.Header.{buckets, bucketField}
-use Rattle.format.specs.Chain.{walk}
+use Rattle.format.specs.Header.{buckets}
 use Rattle.format.specs.Call.{check}
 use Rattle.format.specs.Words.{Accepted, Lengths}
 use Rattle.format.specs.declared.CheckAnswer.{CheckAnswer}
 use Rattle.format.specs.Laws.Course.{walk-opens}
 use Rattle.format.specs.Laws.Demand.{check-answers}
+use Rattle.listing.specs.Listing.{stepWalk}
 use Rattle.listing.specs.Paging.{allRecords, Pages}
 use Rattle.listing.specs.Laws.Order.{records-length}
 use Rattle.listing.specs.Laws.Lists.{each-once, lists-all}
@@ -21,7 +21,7 @@ module _ (s : List ℕ) where
   as-many : Accepted s → (f : ℕ → ℕ) → Lengths s (buckets s) f → length (allRecords s f) ≡ check s .icons
   as-many acc f h = records-length s f (buckets s) ∙ sym (ap (λ (a : CheckAnswer). a .icons) (check-answers s .accepts acc f h))
 
-  opens : (k c : ℕ) → walk (suc c) s [] k (bucketField s k) 0 .opened ≤ suc c
+  opens : (k c : ℕ) → stepWalk s k c .opened ≤ suc c
   opens k c = rw zero-add at (walk-opens s [] k 0 (suc c))
 
 pub pages : (s : List ℕ) → Pages s

@@ -1,17 +1,16 @@
 -- A step, one law for each way it can go.
 use Prim.Native.Nat.{ℕ, suc, _-_, _≤_, _<_}
 use mathlib.Core.Path.{_≡_, ap, _∙_}
-use mathlib.Core.List.{List, []}
+use mathlib.Core.List.{List}
 use mathlib.Core.Bool.{and-eq-true-iff}
 use borrow.Author.Tests.{lt-ltb, le-ltb, le-leb, lt-leb, ltb-true, leb-true, not-false}
 use lib.ListN.{length}
 use Rattle.format.specs.Fault.{fault, noFault}
-use Rattle.format.specs.Header.{headerFault, buckets, bucketField}
-use Rattle.format.specs.Chain.{walk}
+use Rattle.format.specs.Header.{headerFault, buckets}
 use Rattle.format.specs.declared.Fault.{Fault}
 use Rattle.format.specs.declared.Ending.the-variants.{Ended, Met, Broken, Stopped}
 use Rattle.format.specs.Laws.Faults.{orElse-first, orElse-next, orElse-none, given-none, kept-takes, broken-takes}
-use Rattle.listing.specs.Listing.{position, stepIs, positionFault, onward, step}
+use Rattle.listing.specs.Listing.{position, stepIs, positionFault, stepWalk, onward, step}
 use Rattle.listing.specs.declared.Position.{Position}
 use Rattle.listing.specs.declared.Step.{Step}
 
@@ -23,19 +22,19 @@ step-next e = ap (λ (a : Step). a .next) e
 
 -- one bucket, by the ending of its walk
 module _ (s : List ℕ) (q : Position) (n k c : ℕ) where
-  pub onward-ended : walk (suc c) s [] k (bucketField s k) 0 .ending ≡ Ended → onward (suc n) s q k c ≡ onward n s q (suc k) 0
+  pub onward-ended : stepWalk s k c .ending ≡ Ended → onward (suc n) s q k c ≡ onward n s q (suc k) 0
   unfolding onward
   onward-ended e = rw (onward, e)
 
-  pub onward-met : {r : ℕ} → walk (suc c) s [] k (bucketField s k) 0 .ending ≡ Met r → onward (suc n) s q k c ≡ onward n s q (suc k) 0
+  pub onward-met : {r : ℕ} → stepWalk s k c .ending ≡ Met r → onward (suc n) s q k c ≡ onward n s q (suc k) 0
   unfolding onward
   onward-met e = rw (onward, e)
 
-  pub onward-broken : {x p : ℕ} → walk (suc c) s [] k (bucketField s k) 0 .ending ≡ Broken x p → onward (suc n) s q k c ≡ stepIs x p 0 q
+  pub onward-broken : {x p : ℕ} → stepWalk s k c .ending ≡ Broken x p → onward (suc n) s q k c ≡ stepIs x p 0 q
   unfolding onward
   onward-broken e = rw (onward, e)
 
-  pub onward-stopped : {r : ℕ} → walk (suc c) s [] k (bucketField s k) 0 .ending ≡ Stopped r → onward (suc n) s q k c ≡ stepIs 0 0 r (position k (suc c))
+  pub onward-stopped : {r : ℕ} → stepWalk s k c .ending ≡ Stopped r → onward (suc n) s q k c ≡ stepIs 0 0 r (position k (suc c))
   unfolding onward
   onward-stopped e = rw (onward, e)
 

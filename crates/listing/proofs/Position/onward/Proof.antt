@@ -21,7 +21,7 @@ use Rattle.format.specs.Laws.Walk.{same-ending}
 use Rattle.tables.specs.declared.Tables.{Tables}
 use Rattle.chains.proofs.Endings.{ended-or-met}
 use Rattle.listing.specs.declared.Position.{Position}
-use Rattle.listing.specs.Listing.{onward}
+use Rattle.listing.specs.Listing.{stepWalk, onward}
 use Rattle.listing.specs.Laws.Steps.{onward-ended, onward-met, onward-broken, onward-stopped}
 use Rattle.listing.proofs.Position.onward.Statement.{statement}
 use Rattle.listing.proofs.Position.onward.Tie as tie
@@ -47,24 +47,25 @@ turn c =
     let more : n - l .loop .bucket ≡ suc (n - (l .loop .bucket + 1)) = omega arith in
     rw more at (l .loop .inv .2)
 
-within : (s : List ℕ) (k n c : ℕ) {w : Walk} → w ≡ walk n s [] k (bucketField s k) 0 → n ≡ suc c → walk (suc c) s [] k (bucketField s k) 0 .ending ≡ w .ending
+-- the walk by its limit
+within : (s : List ℕ) (k n c : ℕ) {w : Walk} → w ≡ walk n s [] k (bucketField s k) 0 → n ≡ suc c → stepWalk s k c .ending ≡ w .ending
 within s k n c e q = sym (rw q at (same-ending e))
 
 -- how the walk of a turn ends
 walked : (c : tie.After-walk Inv-loop μ-loop)
     → let l = c .before .before .before in
     let s = now (l .before .before .args .cache) in
-    walk (suc (l .loop .passed)) s [] (l .loop .bucket) (bucketField s (l .loop .bucket)) 0 .ending ≡ c .walk .result .ending
+    stepWalk s (l .loop .bucket) (l .loop .passed) .ending ≡ c .walk .result .ending
 walked c = within _ _ _ _ (c .walk .ensures) (omega arith)
 
 -- a walk that neither breaks nor stops: the next bucket is tried
 passed : (s : List ℕ) (q : Position) (n k c : ℕ) (e : Ending)
-    → walk (suc c) s [] k (bucketField s k) 0 .ending ≡ e → (tagOf the-type e ≡ 0) ⊎ (tagOf the-type e ≡ 1)
+    → stepWalk s k c .ending ≡ e → (tagOf the-type e ≡ 0) ⊎ (tagOf the-type e ≡ 1)
     → onward (suc n) s q k c ≡ onward n s q (k + 1) 0
 passed s q n k c e w tag =
     rw add-one
     (ended-or-met
-    (λ e. walk (suc c) s [] k (bucketField s k) 0 .ending ≡ e → onward (suc n) s q k c ≡ onward n s q (suc k) 0)
+    (λ e. stepWalk s k c .ending ≡ e → onward (suc n) s q k c ≡ onward n s q (suc k) 0)
     (λ w. onward-ended s q n k c w)
     (λ r w. onward-met s q n k c w)
     e
