@@ -8,7 +8,8 @@ use Rattle.format.proofs.Ending.{the-type}
 use Rattle.format.specs.declared.Ending.{Ending}
 use Rattle.format.specs.declared.Ending.the-variants.{Ended, Met, Broken, Stopped}
 
-pub ended-or-met : (P : Ending → Type 0) → P Ended → ((r : ℕ) → P (Met r)) → (e : Ending) → (tagOf the-type e ≡ 0) ⊎ (tagOf the-type e ≡ 1) → P e
+pub ended-or-met : (P : Ending → Type 0) → P Ended → ((r : ℕ) → P (Met r)) → (e : Ending)
+    → (tagOf the-type e ≡ 0) ⊎ (tagOf the-type e ≡ 1) → P e
 ended-or-met P ended met Ended h = ended
 ended-or-met P ended met (Met r) h = met r
 ended-or-met P ended met (Broken x p) h = absurd (⊎-elim (λ z. omega arith) (λ z. omega arith) h)

@@ -1,4 +1,4 @@
-// The calls of the library over one lent buffer that holds an icon theme cache. Each takes any buffer, any name and any number, and says
+// The calls of document 01 over one lent buffer that holds an icon theme cache. Each takes any buffer, any name and any number, and says
 // its whole answer by a definition of the crate `format`.
 ghost use mathlib.Core.Path.{_≡_};
 ghost use Prim.Native.Nat.{_+_, _*_, _≤_};

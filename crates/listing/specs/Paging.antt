@@ -29,15 +29,18 @@ pub record RecordAnswers (s : List ℕ) (q : Position) : Type 0 where
       → step s q ≡ stepIs x p 0 q
   pub done : {r : Position} → GoesOn s q r → r .bucket ≡ buckets s → step s q ≡ stepIs 28 0 0 q
 
--- A step's whole answer in these words: the position is refused, or as the chains from it on are.
+-- A step's whole answer in these words: the position is refused, or as the chains from it on are. One of the cases always stands (`ahead`).
 pub record StepAnswers (s : List ℕ) (q : Position) : Type 0 where
   pub refuses-position : (x p : ℕ) → positionFault s q ≡ fault (suc x) p → step s q ≡ stepIs (suc x) p 0 q
   pub goes : positionFault s q .number ≡ 0 → RecordAnswers s q
 
--- the answer of step n of the walk from q on, counted from 0
-unfoldable pub stepAt : ℕ → List ℕ → Position → Step
-stepAt zero s q = step s q
-stepAt (suc n) s q = stepAt n s (step s q .next)
+-- the position after n steps of the walk from q on, and the answer of the step from there
+unfoldable pub reached : ℕ → List ℕ → Position → Position
+reached zero s q = q
+reached (suc n) s q = reached n s (step s q .next)
+
+abbrev pub stepAt : ℕ → List ℕ → Position → Step
+stepAt n s q = step s (reached n s q)
 
 -- the first n records of bucket k's chain, and those of the first k chains, whose lengths f gives: the check's order
 unfoldable pub chainRecords : List ℕ → ℕ → ℕ → List ℕ
@@ -58,28 +61,29 @@ pub record EachOnce (s xs : List ℕ) : Type 0 where
 
 -- the step hands back the record r, and its position is the bucket on whose chain r lies, with r counted
 abbrev pub HandsBack : List ℕ → Step → ℕ → Type 0
-HandsBack s a r = (k m : ℕ) × OnChain s k m r × (a ≡ stepIs 0 0 r (position k (suc m)))
+HandsBack s a r = (k m : ℕ) × (k < buckets s) × OnChain s k m r × (a ≡ stepIs 0 0 r (position k (suc m)))
 
 -- the walk from the start hands back the records of the list, the n-th with its n-th step, and is then done
 pub record Lists (s xs : List ℕ) : Type 0 where
   pub hands-back : (n : ℕ) → n < length xs → HandsBack s (stepAt n s start) (getD xs n 0)
-  pub done : (n : ℕ) → length xs ≤ n → (q : Position) × (stepAt n s start ≡ stepIs 28 0 0 q)
+  pub done : (n : ℕ) → length xs ≤ n → stepAt n s start ≡ stepIs 28 0 0 (reached n s start)
 
 -- from step m on no step of the walk from q hands back a record; all give the same answer
 pub record Ends (s : List ℕ) (q : Position) (m : ℕ) : Type 0 where
   pub no-record : stepAt m s q .number ≡ 0 → ⊥
   pub stays : (n : ℕ) → m ≤ n → stepAt n s q ≡ stepAt m s q
 
--- the largest count that a position may have, and that the step from there hands back a record of bucket k's own chain
+-- the position with the largest count on bucket k's chain
 abbrev pub largest : List ℕ → ℕ → Position
 largest s k = position k (length s - 11)
 
+-- the step from there hands back a record of bucket k's own chain
 abbrev pub AtTheLargestCount : List ℕ → ℕ → Type 0
 AtTheLargestCount s k = let a = step s (largest s k) in (a .number ≡ 0) × (a .next .bucket ≡ k)
 
 -- What request 2 promises: the walk from the start over an accepted cache, whose chains have the lengths f, meets each record once, as many as the
--- check counts; a walk on any buffer, from any position, ends; a chain that keeps the rules never ends exactly where the largest count still gives a
--- record of it; and where c records are to be passed, at most c + 1 of the chain are opened.
+-- check counts; a walk on any buffer, from any position, ends; a chain never ends, each record on it keeping the rules, exactly where the largest count
+-- still gives a record of it; and where c records are to be passed, at most c + 1 of the chain are opened.
 pub record Pages (s : List ℕ) : Type 0 where
   pub each-once : Accepted s → (f : ℕ → ℕ) → Lengths s (buckets s) f → EachOnce s (allRecords s f)
   pub as-many : Accepted s → (f : ℕ → ℕ) → Lengths s (buckets s) f → length (allRecords s f) ≡ check s .icons

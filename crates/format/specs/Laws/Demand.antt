@@ -20,7 +20,7 @@ use Rattle.format.specs.Laws.Links.{on-chain, chain-on, one-step, keeps-
 use Rattle.format.specs.Laws.Along.{at-most-one}
 use Rattle.format.specs.Laws.Course.{course}
 use Rattle.format.specs.Laws.Buckets.{lengths, few, total, check-refuses, answers-accepted, answers-broken, answers-loop}
-use Rattle.format.specs.Laws.Verdict.{Verdict, unsound, accepted, broken, looped, verdict, sound-long}
+use Rattle.format.specs.Laws.Verdict.{Verdict, unsound, accepted, broken, looped, verdict, sound-long, turns-keep}
 use Rattle.format.specs.Laws.Lookup.{query-right, InChain, in-chain}
 
 number : {a b : CheckAnswer} → a ≡ b → a .number ≡ b .number
@@ -39,7 +39,7 @@ module _ {s : List ℕ} where
   loops : {k : ℕ} → Loops s k → check s ≡ checked 12 (bucketField s k) 0 0 (length s - 10)
   loops l =
       let (f, h) = lengths (l .held) in
-      answers-loop f (sound-long s (l .held .sound)) (l .bucket) (l .held .sound) h (λ n. (l .turns .endless n .0, l .turns .keeps n))
+      answers-loop f (sound-long s (l .held .sound)) (l .bucket) (l .held .sound) h (turns-keep (l .turns))
 
   opens : Verdict s → check s .opened ≤ length s - 10
   opens (unsound e) = omega (arith, opened (check-refuses s e (λ z. omega arith)))

@@ -76,8 +76,9 @@ module _ {s : List ℕ} {k n : ℕ} (c : Repeat s k n) where
   never-breaks b = broken-keeps b (goes-on (b .keeps) n .1)
 
 module _ {s : List ℕ} {k n : ℕ} (h : Holds s k n) where
-  pub holds-le : {m : ℕ} → Holds s k m → n ≤ m
-  holds-le {m} g = le-unless (λ l. h .keeps m l .0 (g .ends))
+  -- records that keep the rules come before the end
+  pub keeps-le : {m : ℕ} → KeepsBelow s k m → m ≤ n
+  keeps-le keeps = le-unless (λ l. keeps n l .0 (h .ends))
 
   -- a link that is no end value, with none before it, lies before the end
   pub before-end : {m : ℕ} → ((i : ℕ) → i < m → link s k i ≡ endValue → ⊥) → (link s k m ≡ endValue → ⊥) → m < n

@@ -22,11 +22,11 @@ use Rattle.format.specs.declared.Ending.{Ending}
 use Rattle.format.specs.declared.LookupAnswer.{LookupAnswer}
 use Rattle.format.specs.Laws.Faults.{kept-takes, broken-takes, orElse-none, broken-speaks, kept-passes}
 use Rattle.format.specs.Laws.Header.{header-right}
-use Rattle.format.specs.Laws.Links.{Repeat, earlier, once, goes-on, never-breaks, broken-number, holds-le, before-end, unbroken}
+use Rattle.format.specs.Laws.Links.{Repeat, earlier, once, goes-on, never-breaks, broken-number, keeps-le, before-end, unbroken}
 use Rattle.format.specs.Laws.Apart.{apart-none, apart-few, repeats}
 use Rattle.format.specs.Laws.Along.{walk-ends, walk-meets, walk-breaks, walk-lasts}
 use Rattle.format.specs.Laws.Course.{Course, ends, meets, breaks, lasts, course}
-use Rattle.format.specs.Laws.Verdict.{turns}
+use Rattle.format.specs.Laws.Verdict.{turns, turns-keep}
 
 module _ (s name : List ℕ) (room : ℕ) where
   pub lookup-refuses : {f : Fault} → queryFault s name ≡ f → (f .number ≡ 0 → ⊥) → lookup s name room ≡ lookedUp (f .number) (f .place) 0 0
@@ -108,7 +108,7 @@ module _ (s name : List ℕ) (room : ℕ) (asks : queryFault s name .number ≡ 
       → lookup s name room ≡ lookedUp 12 (bucketField s bucket) 0 (length s - 10)
   unfolding lookupEnds
   refuses-loop t none =
-      ending (walk-lasts s name bucket 0 (length s - 10 - 0) (λ n l. (t .endless n .0, t .keeps n)) (λ n l. none n)) ∙ rw (zero-add, sub-zero)
+      ending (walk-lasts s name bucket 0 (length s - 10 - 0) (λ n l. turns-keep t n) (λ n l. none n)) ∙ rw (zero-add, sub-zero)
 
   -- what holds of both answers to a met record
   met : (P : LookupAnswer → Type 0) (r o : ℕ) → P (lookedUp 0 r (images s r) o) → P (lookedUp 14 (imagesAt s r) (images s r) o)
@@ -145,7 +145,7 @@ module _ (s name : List ℕ) (room : ℕ) (asks : queryFault s name .number ≡ 
 
     pub in-chain : Course s name bucket (suc n) → InChain s name bucket n (lookup s name room)
     in-chain (ends {n = m} l c none) =
-        rw (absent m c none) (record { opens = holds-le c h; absent = (λ e i d. none i (omega (arith, holds-le h c)), λ x. refl) })
+        rw (absent m c none) (record { opens = keeps-le h (c .keeps); absent = (λ e i d. none i (omega (arith, keeps-le c (h .keeps))), λ x. refl) })
     in-chain (meets {n = m} l keeps none here same) =
         let d : m < n = before-end h (λ i g. keeps i g .0) (here .0) in
         rw (found m keeps none here same) (met (InChain s name bucket n) _ _ (there d same _ refl (λ e. omega arith)) (there d same _ refl (λ e. omega arith)))

@@ -12,10 +12,10 @@ use Rattle.format.specs.Words.{KeepsAt, KeepsBelow, Breaks, Turns, Sound
 use Rattle.format.specs.Laws.Below.{below-suc}
 use Rattle.format.specs.Laws.Header.{header-right}
 use Rattle.format.specs.Laws.Rules.{tables-right}
-use Rattle.format.specs.Laws.Links.{goes-on}
+use Rattle.format.specs.Laws.Links.{goes-on, keeps-named}
 use Rattle.format.specs.Laws.Apart.{repeats}
 use Rattle.format.specs.Laws.Course.{Course, ends, meets, breaks, lasts, course}
-use Rattle.format.specs.Laws.Buckets.{lengths, chains, none-empty}
+use Rattle.format.specs.Laws.Buckets.{lengths, chains}
 
 pub data Verdict (s : List ℕ) : Type 0 where
   unsound : {x p : ℕ} → tablesFault s ≡ fault (suc x) p → Verdict s
@@ -29,6 +29,9 @@ sound-long s e = header-right s (tables-right s e) .header-inside
 pub turns : {s : List ℕ} {k : ℕ} → ((n : ℕ) → KeepsAt s k n) → Turns s k
 turns all = record { endless = λ n. (all n .0, all n .1 .inside); keeps = λ n. all n .1 }
 
+pub turns-keep : {s : List ℕ} {k : ℕ} → Turns s k → (n : ℕ) → KeepsAt s k n
+turns-keep t n = (t .endless n .0, t .keeps n)
+
 -- a chain with more records that keep the rules than there can be goes on for ever
 endless : {s : List ℕ} {k : ℕ} (f : ℕ → ℕ) → 12 ≤ length s → Lengths s k f → KeepsBelow s k (length s - 10 - sum f k) → (n : ℕ) → KeepsAt s k n
 endless {s} {k} f long h keeps = let (xs, a, e) = chains f k h in let g = rw (← e) at keeps in goes-on (repeats long a g) g
@@ -39,7 +42,7 @@ module _ (s : List ℕ) (sound : Sound s) where
     where
       go : (f : ℕ → ℕ) → Lengths s k f → Course s [] k (length s - 10 - sum f k) → HeldBefore s (suc k) ⊎ Verdict s
       go f h (ends {n = n} g c none) = inl (record { sound = sound; lower = below-suc (held .lower) (n, c) })
-      go f h (meets {n = n} g keeps none here same) = absurd (none-empty {n = suc n} (below-suc keeps here) n (omega arith) same)
+      go f h (meets {n = n} g keeps none here same) = absurd (keeps-named (here .1) same)
       go f h (breaks g b none) = inr (broken l held b)
       go f h (lasts keeps none) = inr (looped (record { bucket = l; held = held; turns = turns (endless f (sound-long s sound) h keeps) }))
 

@@ -5,7 +5,7 @@ use mathlib.Core.List.{List, []}
 use native.Mathlib.Omega.{arith}
 use Rattle.format.specs.Header.{buckets}
 use Rattle.format.specs.Words.{link, linkField, Holds, Breaks}
-use Rattle.format.specs.Laws.Below.{below-suc}
+use Rattle.format.specs.Laws.Links.{keeps-named}
 use Rattle.format.specs.Laws.Walk.{same-ending}
 use Rattle.format.specs.Laws.Along.{walk-ends, walk-breaks, walk-lasts}
 use Rattle.format.specs.Laws.Buckets.{none-empty}
@@ -75,7 +75,7 @@ module _ {s : List ℕ} {q : Position} where
 
   ahead-here : q .bucket < buckets s → Course s [] (q .bucket) (suc (q .count)) → Ahead s (position (suc (q .bucket)) 0) → Ahead s q
   ahead-here l (ends {n = n} c h none) later = ahead-on h (omega arith) later
-  ahead-here l (meets {n = n} c keeps none t same) later = absurd (none-empty {n = suc n} (below-suc keeps t) n (omega arith) same)
+  ahead-here l (meets {n = n} c keeps none t same) later = absurd (keeps-named (t .1) same)
   ahead-here l (breaks {n = n} c b none) later = break-ahead {n = n} here l (omega arith) b
   ahead-here l (lasts keeps none) later = record-ahead here (l, keeps)
 

@@ -12,8 +12,7 @@ use Rattle.format.specs.Laws.Faults.{same-number}
 use Rattle.format.specs.Laws.Header.{header-right}
 use Rattle.format.specs.Laws.Links.{goes-on}
 use Rattle.format.specs.Laws.Apart.{apart-none, repeats}
-use Rattle.format.specs.Laws.Verdict.{turns}
-use Rattle.listing.specs.Listing.{position, step}
+use Rattle.format.specs.Laws.Verdict.{turns, turns-keep}
 use Rattle.listing.specs.Paging.{GoesOn, here, on, HasRecord, RecordAnswers, largest, AtTheLargestCount}
 use Rattle.listing.specs.Laws.Steps.{position-right, step-number, step-next}
 use Rattle.listing.specs.Laws.Ahead.{Ahead, record-ahead, break-ahead, nothing-ahead, ahead, goes-up, step-answers}
@@ -45,6 +44,6 @@ module _ (s : List ℕ) (header : headerFault s .number ≡ 0) (k : ℕ) (l : k 
   endless = (
     tells (ahead s (largest s k) (omega arith)),
     λ t.
-        let e = answers .gives here (l, λ m i. (t .endless m .0, t .keeps m)) in
+        let e = answers .gives here (l, λ m i. turns-keep t m) in
         (step-number e, ap (λ (p : Position). p .bucket) (step-next e)),
   )

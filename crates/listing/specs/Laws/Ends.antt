@@ -9,11 +9,12 @@ use native.Mathlib.Decide.{ℕ-discrete}
 use native.Mathlib.Omega.{arith}
 use lib.ListN.{length}
 use Rattle.format.specs.Words.{link, KeepsBelow}
-use Rattle.format.specs.Laws.Below.{le-unless, below-suc}
+use Rattle.format.specs.Laws.Below.{below-suc}
 use Rattle.format.specs.Laws.Header.{header-right}
+use Rattle.format.specs.Laws.Links.{keeps-le}
 use Rattle.format.specs.Laws.Apart.{Apart, visits-length, apart-none, apart-length, apart-chain}
 use Rattle.listing.specs.Listing.{position, stepIs, positionFault, step}
-use Rattle.listing.specs.Paging.{GoesOn, here, on, HasRecord, stepAt, Ends}
+use Rattle.listing.specs.Paging.{GoesOn, here, on, HasRecord, reached, stepAt, Ends}
 use Rattle.listing.specs.Laws.Steps.{position-tells, step-refuses, step-number, step-next}
 use Rattle.listing.specs.Laws.Ahead.{Ahead, record-ahead, break-ahead, nothing-ahead, ahead, step-answers}
 use Rattle.listing.specs.declared.Position.{Position}
@@ -69,7 +70,7 @@ module _ {s : List ℕ} where
   }
   one-more {q} {r} long most (on {n = n} h c g) a t =
       let (ys, b, l) = passes g (apart-chain (t .apart) h) in
-      let own : t .d ≤ n = le-unless (λ i. t .keeps n i .0 (h .ends)) in
+      let own : t .d ≤ n = keeps-le h (t .keeps) in
       record {
         xs = ys;
         d = 1;
@@ -80,20 +81,24 @@ module _ {s : List ℕ} where
         all = omega (arith, t .all, visits-length s (q .bucket) n (t .xs));
       }
 
--- A walk that has handed back m records and whose next n steps each hand back one has handed back few.
-handed-few : (s : List ℕ) (n : ℕ) {q : Position} {m : ℕ} → Handed s q m → ((i : ℕ) → i < n → stepAt i s q .number ≡ 0) → m + n ≤ length s - 11 + (length s - 10)
-unfolding stepAt
+-- each of the first n steps from q hands back a record
+abbrev Hands : List ℕ → Position → ℕ → Type 0
+Hands s q n = (i : ℕ) → i < n → stepAt i s q .number ≡ 0
+
+-- those handed back before q, and by these steps, are few
+handed-few : (s : List ℕ) (n : ℕ) {q : Position} {m : ℕ} → Handed s q m → Hands s q n → m + n ≤ length s - 11 + (length s - 10)
+unfolding reached
 handed-few s zero t hands = omega (arith, t .all, t .limited, apart-length (t .apart))
 handed-few s (suc n) {q} {m} t hands = elim (outcome s q) [
   | stays some e ↦ absurd (omega (arith, step-number e, hands 0 (omega arith)))
   | gives long most g a e ↦
-      omega (arith, handed-few s n (one-more long most g a t) (λ i l. rw (stepAt, step-next e) at (hands (suc i) (omega arith))))
+      omega (arith, handed-few s n (one-more long most g a t) (λ i l. rw (reached, step-next e) at (hands (suc i) (omega arith))))
 ]
 
 module _ (s : List ℕ) where
   -- a step without a record is answered again and again
   stands-still : (n : ℕ) (q : Position) → (step s q .number ≡ 0 → ⊥) → stepAt n s q ≡ step s q
-  unfolding stepAt
+  unfolding reached
   stands-still zero q none = refl
   stands-still (suc n) q none = elim (outcome s q) [
     | stays some e ↦ ap (stepAt n s) (step-next e) ∙ stands-still n q none
@@ -101,12 +106,12 @@ module _ (s : List ℕ) where
   ]
 
   still-after : (m n : ℕ) (q : Position) → (stepAt m s q .number ≡ 0 → ⊥) → stepAt (m + n) s q ≡ stepAt m s q
-  unfolding stepAt
+  unfolding reached
   still-after zero n q none = rw zero-add (stands-still n q none)
   still-after (suc m) n q none = rw suc-add (still-after m n (step s q .next) none)
 
   -- the first step without a record, if there is one among n
-  first-without : (n : ℕ) (q : Position) → ((i : ℕ) → i < n → stepAt i s q .number ≡ 0) ⊎ ((m : ℕ) × (m < n) × (stepAt m s q .number ≡ 0 → ⊥))
+  first-without : (n : ℕ) (q : Position) → Hands s q n ⊎ ((m : ℕ) × (m < n) × (stepAt m s q .number ≡ 0 → ⊥))
   first-without zero q = inl (λ i l. absurd (omega arith))
   first-without (suc n) q = elim (first-without n q) [
     | inr t ↦ inr (t .0, omega (arith, t .1), t .2)

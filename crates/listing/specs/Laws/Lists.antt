@@ -10,11 +10,11 @@ use Rattle.format.specs.Words.{link, Holds, OnChain, Accepted, Lengths, sum}
 use Rattle.format.specs.Laws.Faults.{same-number}
 use Rattle.format.specs.Laws.Header.{header-right}
 use Rattle.format.specs.Laws.Rules.{tables-right}
-use Rattle.format.specs.Laws.Links.{holds-le, before-end, unbroken, on-chain, chain-on}
+use Rattle.format.specs.Laws.Links.{keeps-le, unbroken, on-chain, chain-on}
 use Rattle.format.specs.Laws.Buckets.{total}
 use Rattle.format.specs.Laws.Demand.{demand3}
-use Rattle.listing.specs.Listing.{position, start, stepIs, positionFault, step}
-use Rattle.listing.specs.Paging.{GoesOn, here, on, RecordAnswers, stepAt, allRecords, EachOnce, HandsBack, Lists}
+use Rattle.listing.specs.Listing.{start, stepIs, positionFault, step}
+use Rattle.listing.specs.Paging.{GoesOn, here, on, RecordAnswers, reached, stepAt, allRecords, EachOnce, HandsBack, Lists}
 use Rattle.listing.specs.Laws.Steps.{position-right, step-next}
 use Rattle.listing.specs.Laws.Ahead.{Ahead, record-ahead, break-ahead, nothing-ahead, ahead, goes-up, step-answers}
 use Rattle.listing.specs.Laws.Order.{records-length, sum-before, record-at, located}
@@ -31,6 +31,10 @@ pub data Next (s : List ℕ) (f : ℕ → ℕ) (q : Position) (n : ℕ) : Type 0
   hands-back : n < sum f (buckets s) → HandsBack s (step s q) (getD (allRecords s f) n 0) → Stands s f (step s q .next) (suc n) → Next s f q n
   done : sum f (buckets s) ≤ n → step s q ≡ stepIs 28 0 0 q → Next s f q n
 
+-- where the n-th of the list lies
+abbrev Located : List ℕ → (ℕ → ℕ) → ℕ → Type 0
+Located s f n = (j m : ℕ) × (j < buckets s) × (n ≡ sum f j + m) × OnChain s j m (getD (allRecords s f) n 0)
+
 module _ {s : List ℕ} (acc : Accepted s) (f : ℕ → ℕ) (h : Lengths s (buckets s) f) where
   -- a position of the walk is right
   stands-right : {q : Position} {n : ℕ} → Stands s f q n → positionFault s q .number ≡ 0
@@ -39,13 +43,14 @@ module _ {s : List ℕ} (acc : Accepted s) (f : ℕ → ℕ) (h : Lengths s (buc
       same-number (position-right s q (tables-right s (acc .sound)) (t .bucket) few)
 
   -- where a step goes on to, as many records are passed
-  same-passed : {q r : Position} → GoesOn s q r → r .bucket ≤ buckets s → q .count ≤ f (q .bucket) → sum f (q .bucket) + q .count ≡ sum f (r .bucket) + r .count
+  same-passed : {q r : Position} → GoesOn s q r → r .bucket ≤ buckets s → q .count ≤ f (q .bucket)
+      → sum f (q .bucket) + q .count ≡ sum f (r .bucket) + r .count
   unfolding sum
   same-passed here l c = refl
   same-passed {q} {r} (on {n = n} g m o) l c =
       let own : Holds s (q .bucket) (f (q .bucket)) = h (q .bucket) (omega (arith, goes-up o)) in
       let rest = same-passed o l (omega arith) in
-      omega (arith, holds-le own g)
+      omega (arith, keeps-le g (own .keeps))
 
   next : {q : Position} {n : ℕ} → Stands s f q n → Next s f q n
   next {q} {n} t = go (ahead s q (omega (arith, t .bucket)))
@@ -56,19 +61,19 @@ module _ {s : List ℕ} (acc : Accepted s) (f : ℕ → ℕ) (h : Lengths s (buc
       go : Ahead s q → Next s f q n
       go (record-ahead {r = r} g a) =
           let own = h (r .bucket) (a .0) in
-          let less : r .count < f (r .bucket) = before-end own (λ i l. a .1 i (omega arith) .0) (a .1 (r .count) (omega arith) .0) in
+          let less : r .count < f (r .bucket) = keeps-le own (a .1) in
           let e = same-passed g (omega (arith, a .0)) (t .count) in
           let at-n : getD (allRecords s f) n 0 ≡ link s (r .bucket) (r .count) = rw (← (t .passed), e) (record-at s f (buckets s) (a .0) less) in
           let given = answers .gives g a in
           hands-back
           (omega (arith, t .passed, sum-before s f (buckets s) (a .0)))
-          (rw at-n (r .bucket, r .count, chain-on own less, given))
+          (rw at-n (r .bucket, r .count, a .0, chain-on own less, given))
           (rw (step-next given) (record { bucket = a .0; count = less; passed = omega (arith, t .passed) }))
       go (break-ahead {r = r} g l c b) = absurd (unbroken (h (r .bucket) l) b)
       go (nothing-ahead {r = r} g e) = done (omega (arith, same-passed g (omega arith) (t .count), t .passed, ap (sum f) e)) (answers .done g e)
 
   step-record : (n : ℕ) {q : Position} {m : ℕ} → Stands s f q m → m + n < sum f (buckets s) → HandsBack s (stepAt n s q) (getD (allRecords s f) (m + n) 0)
-  unfolding stepAt
+  unfolding reached
   step-record zero t l = elim (next t) [ hands-back a e u ↦ rw add-zero e | done a e ↦ absurd (omega arith) ]
   step-record (suc n) {q} {m} t l = elim (next t) [
     | hands-back a e u ↦
@@ -77,9 +82,9 @@ module _ {s : List ℕ} (acc : Accepted s) (f : ℕ → ℕ) (h : Lengths s (buc
     | done a e ↦ absurd (omega arith)
   ]
 
-  step-done : (n : ℕ) {q : Position} {m : ℕ} → Stands s f q m → sum f (buckets s) ≤ m + n → (r : Position) × (stepAt n s q ≡ stepIs 28 0 0 r)
-  unfolding stepAt
-  step-done zero {q} t l = elim (next t) [ hands-back a e u ↦ absurd (omega arith) | done a e ↦ (q, e) ]
+  step-done : (n : ℕ) {q : Position} {m : ℕ} → Stands s f q m → sum f (buckets s) ≤ m + n → stepAt n s q ≡ stepIs 28 0 0 (reached n s q)
+  unfolding reached
+  step-done zero {q} t l = elim (next t) [ hands-back a e u ↦ absurd (omega arith) | done a e ↦ e ]
   step-done (suc n) {q} {m} t l = elim (next t) [
     | hands-back a e u ↦ step-done n u (omega arith)
     | done a e ↦ rw (step-next e) (step-done n t (omega arith))
@@ -99,10 +104,10 @@ module _ {s : List ℕ} (acc : Accepted s) (f : ℕ → ℕ) (h : Lengths s (buc
   counted : {j m : ℕ} → j < buckets s → m < f j → sum f j + m < length (allRecords s f)
   counted l c = omega (arith, records-length s f (buckets s), sum-before s f (buckets s) l)
 
-  located-in : {n : ℕ} → n < length (allRecords s f) → (j m : ℕ) × (j < buckets s) × (n ≡ sum f j + m) × OnChain s j m (getD (allRecords s f) n 0)
+  located-in : {n : ℕ} → n < length (allRecords s f) → Located s f n
   located-in {n} l = go (located s f (buckets s) (rw (records-length s f (buckets s)) at l))
     where
-      go : ((j m : ℕ) × (j < buckets s) × (m < f j) × (n ≡ sum f j + m)) → (j m : ℕ) × (j < buckets s) × (n ≡ sum f j + m) × OnChain s j m (getD (allRecords s f) n 0)
+      go : ((j m : ℕ) × (j < buckets s) × (m < f j) × (n ≡ sum f j + m)) → Located s f n
       go (j, m, a, c, e) = (j, m, a, e, rw (e, record-at s f (buckets s) a c) (chain-on (h j a) c))
 
   same-place : {j k i o m n : ℕ} → m ≡ sum f j + i → n ≡ sum f k + o → (j ≡ k) × (i ≡ o) → m ≡ n

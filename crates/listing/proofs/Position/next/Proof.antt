@@ -47,7 +47,9 @@ returns-2 c =
     c .stay2 .ensures ∙ sym (step-refuses _ _ beyond (λ z. omega arith))
 
 sub-if3 : tie.Need-sub-if3
-sub-if3 c = let kept = c .before .before .before .before in omega (arith, header-right (now (kept .before .before .before .before .args .cache)) (header-kept kept) .header-inside)
+sub-if3 c =
+    let kept = c .before .before .before .before in
+    omega (arith, header-right (now (kept .before .before .before .before .args .cache)) (header-kept kept) .header-inside)
 
 stay-requires-3 : tie.Need-stay-requires-3
 stay-requires-3 c κs = search needs
