@@ -26,7 +26,7 @@
  * What the caller owes:
  *  - a pointer that comes with a length points to that many bytes or words, and is not NULL even where the length is 0;
  *  - cache and name are not written to while a call runs, by any thread, and `words` does not overlap them;
- *  - each output pointer points to one object of its own.
+ *  - each output pointer points to one object of its own; bucket and count are read too, so a number stands in both.
  * Nothing is kept after a call returns, and nothing is allocated. Calls on different outputs may run at the same time.
  */
 #ifndef ICON_CACHE_H
@@ -77,17 +77,20 @@ uint32_t icon_cache_directory_path(const uint8_t *cache, size_t cache_len, size_
                                    size_t *start, size_t *length);
 
 /*
- * Steps through the icon records, in the order in which the check meets them. A position is a bucket and how many records of its chain are
- * passed: begin with 0 and 0, keep the position between the calls for as long as you like, and stop at any number but 0. With 0, *record is
- * the offset of the next record and the position is the one after it. With any other number *record is 0 and the position is as it came: 28
- * says that there are no further records.
+ * Hands back the icon records one by one, in the order in which the check meets them. *bucket and *count are the position, read and written: a
+ * bucket, and how many records of its chain are passed. Begin with 0 and 0, keep the position between the calls for as long as you like, and
+ * stop at any number but 0. With 0, *record is the offset of the next record and the position is the one after it. With any other number
+ * *record is 0 and the position is as it came; 28 says that there are no further records. If the check accepts the cache, a walk from 0 and 0
+ * hands back each record once.
  *
- * The record and all that the step passed have been judged by 7 to 11, so its name lies inside: it begins at the big-endian number of four
- * bytes at *record + 4, and a zero byte ends it. Buckets below the position's and the directories' paths are not judged: in a cache that the
- * check refuses a walk may still hand back records. On a chain that never ends it hands them back round and round, until the count is the
- * cache's length less 10, and then answers 26; on any cache it stops after fewer than twice as many records as there are bytes.
+ * The record and those passed on its chain have been judged by 7 to 11, so its name lies inside: 1 to 255 bytes, which begin at the big-endian
+ * number of four bytes at *record + 4, and a zero byte after them. Other records and the paths are not judged: in a cache that the check
+ * refuses a walk may still hand back records. No step answers 12. On a chain that never ends the records come round and round, until the count
+ * is the cache's length less 10, and then the answer is 26. On any cache a walk hands back at most twice as many records as there are bytes.
  *
- * A step opens at most *count + 1 records of the position's chain.
+ * A step passes its chain anew: it opens at most *count + 1 records of it, and one of a later chain. So to list a chain costs the square of its
+ * length, and one step on an endless chain can take tens of seconds at 16 MiB. Where nothing has checked the cache, take a page at a time. A chain
+ * never ends, and all its records keep the rules, exactly if the step from its bucket and cache_len - 11 answers 0 and leaves *bucket as it was.
  */
 uint32_t icon_cache_list(const uint8_t *cache, size_t cache_len,
                          size_t *bucket, size_t *count, size_t *place, size_t *record);

@@ -2,8 +2,8 @@
 //!
 //! The cache is a lent byte slice; nothing in it is trusted. [`check`] judges
 //! the whole cache, [`lookup`] finds the images of one icon name, [`directory`]
-//! gives the path of one directory index, and [`records`] hands back all icon
-//! records, from any [`Position`] on.
+//! gives the path of one directory index, [`records`] hands back all icon records,
+//! and [`records_from`] those from a [`Position`] on.
 //!
 //! ```
 //! use icon_cache::{check, directory, lookup, records, FARM_CACHE};

@@ -80,6 +80,11 @@ pub struct Step {
     pub position: Position,
 }
 
+impl Step {
+    /// The number if there is no further record. It is no refusal.
+    pub const DONE: u32 = 28;
+}
+
 mod c {
     extern "C" {
         pub fn icon_cache_check(

@@ -1,4 +1,4 @@
-use crate::raw::{self, Position};
+use crate::raw::{self, Position, Step};
 use crate::Refusal;
 use std::ffi::CStr;
 use std::iter::FusedIterator;
@@ -44,10 +44,11 @@ pub fn records(cache: &[u8]) -> Records<'_> {
     records_from(cache, Position::START)
 }
 
-/// The icon records from a position on, which may be made up. A count above the
-/// length of its chain leads to the next bucket. If the cache has no such bucket,
-/// or the count is more than the cache's length less 11, the only item is the
-/// refusal [`BAD_POSITION`](Refusal::BAD_POSITION). Lower buckets are not judged.
+/// The icon records from a position on, which may be made up. A count of its
+/// chain's length or more leads on to the next bucket that has a record. If the
+/// header is right and the cache has no such bucket, or the count is more than the
+/// cache's length less 11, the only item is the refusal
+/// [`BAD_POSITION`](Refusal::BAD_POSITION). Lower buckets are not judged.
 ///
 /// ```
 /// use icon_cache::{records_from, Position, Refusal, FARM_CACHE};
@@ -88,13 +89,14 @@ pub fn records_from(cache: &[u8], position: Position) -> Records<'_> {
 /// # Ok::<(), Refusal>(())
 /// ```
 ///
-/// Since a position is no more than a count, each step passes the records of
-/// its chain anew, and a chain costs the square of its length. On a chain that
+/// Since a position holds no offset, each step passes the records of its chain
+/// anew, and a chain costs the square of its length. On a chain that
 /// never ends the records come round and round, until the count is the cache's
 /// length less 10; then comes [`BAD_POSITION`](Refusal::BAD_POSITION). So take a
 /// page at a time where nothing has judged the cache, or ask
 /// [`check`](crate::check) first.
 #[derive(Clone, Debug)]
+#[must_use = "iterators are lazy"]
 pub struct Records<'a> {
     cache: &'a [u8],
     position: Position,
@@ -133,7 +135,7 @@ impl<'a> Iterator for Records<'a> {
                 offset: step.record,
                 name: name(self.cache, step.record),
             })),
-            Refusal::DONE => None,
+            Step::DONE => None,
             number => Some(Err(Refusal {
                 number,
                 place: step.place,

@@ -44,8 +44,6 @@ impl Refusal {
     /// The position names no bucket, or its count is more than the cache's
     /// length less 11.
     pub const BAD_POSITION: u32 = 26;
-    /// [`raw::list`](crate::raw::list) has no further record to hand back.
-    pub const DONE: u32 = 28;
     /// No record bears the name asked for.
     pub const ABSENT: u32 = 30;
 }
@@ -69,7 +67,6 @@ impl fmt::Display for Refusal {
             14 => "there is too little room for the images",
             15 => "there is no directory of this index",
             26 => "the position asked for names no bucket, or its count is too large",
-            28 => "there is no further record",
             30 => "there is no icon of this name",
             _ => "the answer number is unknown",
         })
@@ -101,7 +98,6 @@ mod tests {
             (Refusal::NO_ROOM, "too little room"),
             (Refusal::NO_SUCH_DIRECTORY, "no directory"),
             (Refusal::BAD_POSITION, "the position"),
-            (Refusal::DONE, "no further record"),
             (Refusal::ABSENT, "no icon"),
         ] {
             assert!(sentence(number).contains(words), "{number}");
@@ -110,8 +106,8 @@ mod tests {
 
     #[test]
     fn each_number_has_its_own_sentence() {
-        let known: HashSet<_> = (1..=15).chain([26, 28, 30]).map(sentence).collect();
-        assert_eq!(known.len(), 18);
+        let known: HashSet<_> = (1..=15).chain([26, 30]).map(sentence).collect();
+        assert_eq!(known.len(), 17);
         assert!(!known.contains(&sentence(0)));
     }
 }

@@ -1,7 +1,7 @@
 //! The check of a whole cache.
 
 use crate::caches::Cache;
-use crate::measure::{in_turn, time, Rounds, Seconds, LIBRARY, MEMCPY, READER, READERS};
+use crate::measure::{in_turn, repeat, Rounds, Seconds, LIBRARY, MEMCPY, READER, READERS};
 use crate::reader;
 use icon_cache::raw;
 use std::hint::black_box;
@@ -34,15 +34,4 @@ fn measure(bytes: &[u8], icons: usize, round: usize) -> Seconds {
         seconds[reader] = Some(taken);
     }
     seconds
-}
-
-/// Seconds for each call, and the sum of what the calls answer. For all that the
-/// compiler knows, each call is given another buffer.
-#[inline(never)]
-pub fn repeat(calls: usize, bytes: &[u8], mut call: impl FnMut(&[u8]) -> usize) -> (f64, usize) {
-    time(calls, || {
-        (0..calls)
-            .map(|_| black_box(call(black_box(bytes))))
-            .sum::<usize>()
-    })
 }

@@ -1,8 +1,7 @@
 //! The listing of a whole cache: a step for each record and one that says done.
 
 use crate::caches::Cache;
-use crate::checks::repeat;
-use crate::measure::{in_turn, Rounds, Row, Seconds, LIBRARY, READER, READERS};
+use crate::measure::{in_turn, repeat, Rounds, Row, Seconds, LIBRARY, READER, READERS};
 use crate::reader;
 use icon_cache::raw;
 use std::hint::black_box;
@@ -60,7 +59,9 @@ fn walk<Position>(start: Position, step: impl Fn(Position) -> (u32, Position)) -
 
 /// What listing costs beside the check of the same cache, and where that comes from.
 pub fn print_costs(caches: &[Cache], rows: &[Row]) {
-    println!("\nThe check opens each record once, a step all before it on its chain again.\n");
+    println!(
+        "\nThe check opens each record once; a step opens all before it on its chain again.\n"
+    );
     println!(
         "{:<26} {:>10} {:>8} {:>13} {:>15}",
         "cache", "list/check", "records", "longest chain", "opened by steps"

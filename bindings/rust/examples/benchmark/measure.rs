@@ -2,6 +2,7 @@
 
 use crate::caches::Cache;
 use std::ffi::{c_int, c_long};
+use std::hint::black_box;
 use std::time::Duration;
 
 /// The readers of a row, in the order of its columns.
@@ -81,6 +82,17 @@ pub fn time<T>(calls: usize, work: impl FnOnce() -> T) -> (f64, T) {
     let answer = work();
     let taken = processor_time() - start;
     (taken.as_secs_f64() / calls as f64, answer)
+}
+
+/// Seconds for each call, and the sum of what the calls answer. For all that the
+/// compiler knows, each call is given another buffer.
+#[inline(never)]
+pub fn repeat(calls: usize, bytes: &[u8], mut call: impl FnMut(&[u8]) -> usize) -> (f64, usize) {
+    time(calls, || {
+        (0..calls)
+            .map(|_| black_box(call(black_box(bytes))))
+            .sum::<usize>()
+    })
 }
 
 /// The time that this thread has had a processor. Where other programs run

@@ -1,10 +1,7 @@
 //! Positions to step from, as a caller may make them up.
 
-use super::Random;
+use super::{Random, WRAPPING};
 use crate::reader::Position;
-
-/// These are 0 in 32 bits, and after a multiplication by 4.
-const WRAPPING: [usize; 2] = [(u32::MAX as usize).wrapping_add(1), usize::MAX / 4 + 1];
 
 /// Positions in a cache of this length and these chains: on a chain and behind
 /// it, around the largest count, and in buckets that are not there. Half of them

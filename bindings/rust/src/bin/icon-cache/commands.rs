@@ -73,11 +73,8 @@ fn check_file(output: &mut Output, file: &OsStr) -> Status {
 }
 
 fn say_refused(output: &mut Output, what: &str, refusal: &Refusal) -> Status {
-    say_refused_because(output, what, &show::refusal(refusal))
-}
-
-fn say_refused_because(output: &mut Output, what: &str, why: &str) -> Status {
     let refused = output.paint(Colour::Red, "refused");
+    let why = show::refusal(refusal);
     output.line(&format!("{what}: {refused}: {why}"));
     Status::Refused
 }
@@ -168,9 +165,12 @@ fn list_page(
         let Position { bucket, count } = records.position();
         let chain_is_new = listed == 0 || count == 1;
         match record {
+            Err(refusal) if refusal.number == Refusal::BAD_POSITION => {
+                return say_refused(output, &show::from(from), &refusal);
+            }
             Err(refusal) => return say_refused(output, shown, &refusal),
             Ok(_) if chain_is_new && is_endless(cache, bucket) => {
-                return say_endless(output, shown, bucket);
+                return say_refused(output, shown, &endless(cache, bucket));
             }
             Ok(_) if listed == limit => return say_next_page(output, end),
             Ok(record) => say_record(output, &record),
@@ -196,11 +196,15 @@ fn is_endless(cache: &[u8], bucket: usize) -> bool {
     step.number == 0 && step.position.bucket == bucket
 }
 
-/// The library doesn't say where the field of the bucket stands.
-fn say_endless(output: &mut Output, shown: &str, bucket: usize) -> Status {
-    let rule = Refusal::ENDLESS_CHAIN;
-    let why = format!("rule {rule}: the chain of bucket {bucket} never ends");
-    say_refused_because(output, shown, &why)
+/// What the check would say of that chain. The fields of the buckets follow on
+/// their count, and the header says where that stands; it has been judged.
+fn endless(cache: &[u8], bucket: usize) -> Refusal {
+    let hash = cache[4..].first_chunk().expect("the header lies inside");
+    Refusal {
+        number: Refusal::ENDLESS_CHAIN,
+        place: u32::from_be_bytes(*hash) as usize + 4 + 4 * bucket,
+        opened: 0,
+    }
 }
 
 /// The next record may take a while: its chain is passed anew.
@@ -212,8 +216,7 @@ fn say_record(output: &mut Output, record: &Record) {
 }
 
 fn say_next_page(output: &mut Output, from: Position) -> Status {
-    let Position { bucket, count } = from;
-    output.line(&format!("next page: --from {bucket}:{count}"));
+    output.line(&format!("next page: {}", show::from(from)));
     Status::Good
 }
 

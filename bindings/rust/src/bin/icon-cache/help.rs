@@ -20,8 +20,8 @@ Options:
   -V, --version   show the version
 
 Exit status:
-  0  each cache is accepted, each icon is found
-  1  a cache is refused, or an icon is absent
+  0  accepted, found or listed
+  1  refused or absent
   2  a wrong command line, or a file that can't be read
 
 On a terminal the output has colours, unless NO_COLOR is set and not empty, or
@@ -83,12 +83,13 @@ Options:
   --limit N             list N icons at most
 
 If N icons are listed and another follows, a last line tells how to go on, such
-as `next page: --from 12:1`. Of an option given twice the last counts, so that
-can be added to the same command.
+as `next page: --from 12:1`. The last of an option given twice counts, so this
+one can be added to the same command.
 
 A directory as FILE stands for the icon-theme.cache in it, and - for standard
 input. Only the records on the way are judged, and the list ends at the first
 that is refused. On a chain that never ends icons would come round and round, so
-none of it is listed. `icon-cache check` judges the whole cache.
+none of it is listed. To go on behind either, begin at the next bucket. A long
+chain costs the square of its length. `icon-cache check` judges the whole cache.
 
 Exit status: 0 listed, 1 refused, 2 a file that can't be read.";

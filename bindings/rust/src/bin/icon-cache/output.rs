@@ -7,7 +7,7 @@ use std::process::ExitCode;
 /// The exit status; of several, the worst counts.
 #[derive(Clone, Copy, Debug, PartialEq, Eq, PartialOrd, Ord)]
 pub enum Status {
-    /// Accepted or found.
+    /// Accepted, found or listed.
     Good = 0,
     /// Refused or absent.
     Refused = 1,

@@ -1,6 +1,6 @@
 //! How bytes, numbers and refusals are shown.
 
-use icon_cache::{Image, Refusal};
+use icon_cache::{Image, Position, Refusal};
 use std::fmt::Write;
 
 /// Bytes of a path or a name. Bytes that are not UTF-8 are escaped, and so are
@@ -34,6 +34,11 @@ pub fn offset(offset: usize) -> String {
 pub fn refusal(refusal: &Refusal) -> String {
     let place = offset(refusal.place);
     format!("rule {} at {place}: {refusal}", refusal.number)
+}
+
+/// A position as the option that begins there.
+pub fn from(Position { bucket, count }: Position) -> String {
+    format!("--from {bucket}:{count}")
 }
 
 /// A number of things: "1 icon", "3 icons".
