@@ -15,9 +15,9 @@ use tables::Tables;
 use tables::bucket_field;
 
 // The walk of `bucket`'s chain for a record that bears `wanted`, which is empty or a name of this bucket: how it ends, and how many records the
-// call has opened then, `earlier` of them before it; it opens no more once `limit` are opened in all. No record that keeps rule 8 bears the empty name, so with that
-// the walk goes on until the chain ends or no more records may be opened. A name is compared before it is judged: the wanted one keeps rules 8
-// and 9.
+// call has opened then, `earlier` of them before it. It opens no more once `limit` are opened in all. No record that keeps rule 8 bears the empty
+// name, so with that the walk goes on until the chain ends or no more may be opened. A name is compared before it is judged: the wanted one keeps
+// rules 8 and 9.
 pub fn walk(
     cache: &[u8],
     t: Tables,

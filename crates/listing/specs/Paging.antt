@@ -68,6 +68,10 @@ pub record Lists (s xs : List ℕ) : Type 0 where
   pub hands-back : (n : ℕ) → n < length xs → HandsBack s (stepAt n s start) (getD xs n 0)
   pub done : (n : ℕ) → length xs ≤ n → stepAt n s start ≡ stepIs 28 0 0 (reached n s start)
 
+-- how many records a walk hands back at most: of chains that it leaves behind, and of the one where it stays
+abbrev pub mostHanded : List ℕ → ℕ
+mostHanded s = length s - 11 + (length s - 10)
+
 -- from step m on no step of the walk from q hands back a record; all give the same answer
 pub record Ends (s : List ℕ) (q : Position) (m : ℕ) : Type 0 where
   pub no-record : stepAt m s q .number ≡ 0 → ⊥
@@ -88,6 +92,6 @@ pub record Pages (s : List ℕ) : Type 0 where
   pub each-once : Accepted s → (f : ℕ → ℕ) → Lengths s (buckets s) f → EachOnce s (allRecords s f)
   pub as-many : Accepted s → (f : ℕ → ℕ) → Lengths s (buckets s) f → length (allRecords s f) ≡ check s .icons
   pub lists : Accepted s → (f : ℕ → ℕ) → Lengths s (buckets s) f → Lists s (allRecords s f)
-  pub ends : (q : Position) → (m : ℕ) × (m ≤ length s - 11 + (length s - 10)) × Ends s q m
+  pub ends : (q : Position) → (m : ℕ) × (m ≤ mostHanded s) × Ends s q m
   pub endless : headerFault s .number ≡ 0 → (k : ℕ) → k < buckets s → (AtTheLargestCount s k ↔ Turns s k)
   pub opens : (k c : ℕ) → stepWalk s k c .opened ≤ suc c

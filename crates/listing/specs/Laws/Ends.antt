@@ -14,7 +14,7 @@ use Rattle.format.specs.Laws.Header.{header-right}
 use Rattle.format.specs.Laws.Links.{keeps-le}
 use Rattle.format.specs.Laws.Apart.{Apart, visits-length, apart-none, apart-length, apart-chain}
 use Rattle.listing.specs.Listing.{position, stepIs, positionFault, step}
-use Rattle.listing.specs.Paging.{GoesOn, here, on, HasRecord, reached, stepAt, Ends}
+use Rattle.listing.specs.Paging.{GoesOn, here, on, HasRecord, reached, stepAt, mostHanded, Ends}
 use Rattle.listing.specs.Laws.Steps.{position-tells, step-refuses, step-number, step-next}
 use Rattle.listing.specs.Laws.Ahead.{Ahead, record-ahead, break-ahead, nothing-ahead, ahead, step-answers}
 use Rattle.listing.specs.declared.Position.{Position}
@@ -86,7 +86,7 @@ abbrev Hands : List ℕ → Position → ℕ → Type 0
 Hands s q n = (i : ℕ) → i < n → stepAt i s q .number ≡ 0
 
 -- those handed back before q, and by these steps, are few
-handed-few : (s : List ℕ) (n : ℕ) {q : Position} {m : ℕ} → Handed s q m → Hands s q n → m + n ≤ length s - 11 + (length s - 10)
+handed-few : (s : List ℕ) (n : ℕ) {q : Position} {m : ℕ} → Handed s q m → Hands s q n → m + n ≤ mostHanded s
 unfolding reached
 handed-few s zero t hands = omega (arith, t .all, t .limited, apart-length (t .apart))
 handed-few s (suc n) {q} {m} t hands = elim (outcome s q) [
@@ -132,9 +132,9 @@ module _ (s : List ℕ) where
     all = omega arith;
   }
 
-  pub ends : (q : Position) → (m : ℕ) × (m ≤ length s - 11 + (length s - 10)) × Ends s q m
-  ends q = elim (first-without (suc (length s - 11 + (length s - 10))) q) [
-    | inl hands ↦ absurd (omega (arith, handed-few s (suc (length s - 11 + (length s - 10))) (begins q) hands))
+  pub ends : (q : Position) → (m : ℕ) × (m ≤ mostHanded s) × Ends s q m
+  ends q = elim (first-without (suc (mostHanded s)) q) [
+    | inl hands ↦ absurd (omega (arith, handed-few s (suc (mostHanded s)) (begins q) hands))
     | inr t ↦ (
       t .0,
       omega (arith, t .1),

@@ -21,13 +21,13 @@ use Rattle.listing.specs.Laws.Order.{records-length, sum-before, record-
 use Rattle.listing.specs.declared.Position.{Position}
 
 -- n records are passed at q
-pub record Stands (s : List ℕ) (f : ℕ → ℕ) (q : Position) (n : ℕ) : Type 0 where
-  pub bucket : q .bucket < buckets s
-  pub count : q .count ≤ f (q .bucket)
-  pub passed : sum f (q .bucket) + q .count ≡ n
+record Stands (s : List ℕ) (f : ℕ → ℕ) (q : Position) (n : ℕ) : Type 0 where
+  bucket : q .bucket < buckets s
+  count : q .count ≤ f (q .bucket)
+  passed : sum f (q .bucket) + q .count ≡ n
 
 -- the answer after n records: the next, or none
-pub data Next (s : List ℕ) (f : ℕ → ℕ) (q : Position) (n : ℕ) : Type 0 where
+data Next (s : List ℕ) (f : ℕ → ℕ) (q : Position) (n : ℕ) : Type 0 where
   hands-back : n < sum f (buckets s) → HandsBack s (step s q) (getD (allRecords s f) n 0) → Stands s f (step s q .next) (suc n) → Next s f q n
   done : sum f (buckets s) ≤ n → step s q ≡ stepIs 28 0 0 q → Next s f q n
 
