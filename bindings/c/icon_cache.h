@@ -88,7 +88,7 @@ uint32_t icon_cache_directory_path(const uint8_t *cache, size_t cache_len, size_
  * refuses a walk may still hand back records. No step answers 12. On a chain that never ends the records come round and round, until the count
  * is the cache's length less 10, and then the answer is 26. On any cache a walk hands back at most twice as many records as there are bytes.
  *
- * A step passes its chain anew: it opens at most *count + 1 records of it, and one of a later chain. So to list a chain costs the square of its
+ * A step passes its chain anew: it opens at most *count + 1 records, those of a later chain counted in. So to list a chain costs the square of its
  * length, and one step on an endless chain can take tens of seconds at 16 MiB. Where nothing has checked the cache, take a page at a time. A chain
  * never ends, and all its records keep the rules, exactly if the step from its bucket and cache_len - 11 answers 0 and leaves *bucket as it was.
  */

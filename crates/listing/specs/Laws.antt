@@ -6,4 +6,5 @@ pub mod Order
 pub mod Lists
 pub mod Ends
 pub mod Endless
+pub mod Opens
 pub mod Pages

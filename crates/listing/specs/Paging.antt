@@ -9,6 +9,7 @@ use Rattle.format.specs.Header.{headerFault, buckets}
 use Rattle.format.specs.Call.{check}
 use Rattle.format.specs.Words.{link, KeepsBelow, Holds, Breaks, OnChain, Turns, Accepted, Lengths}
 use Rattle.listing.specs.Listing.{position, start, stepIs, positionFault, stepWalk, step}
+use Rattle.format.specs.declared.Ending.the-variants.{Ended, Met, Broken, Stopped}
 use Rattle.listing.specs.declared.Position.{Position}
 use Rattle.listing.specs.declared.Step.{Step}
 
@@ -85,13 +86,28 @@ largest s k = position k (length s - 11)
 abbrev pub AtTheLargestCount : List ℕ → ℕ → Type 0
 AtTheLargestCount s k = let a = step s (largest s k) in (a .number ≡ 0) × (a .next .bucket ≡ k)
 
+-- how many records the walks open from which `onward` has its answer, and so a step from a position that is right
+unfoldable pub onwardOpens : ℕ → List ℕ → ℕ → ℕ → ℕ
+onwardOpens zero s k c = 0
+onwardOpens (suc n) s k c =
+    let w = stepWalk s k c in
+    elim (w .ending) [
+      | Ended ↦ w .opened + onwardOpens n s (suc k) 0
+      | Met r ↦ w .opened + onwardOpens n s (suc k) 0
+      | Broken x p ↦ w .opened
+      | Stopped r ↦ w .opened
+    ]
+
+abbrev pub stepOpens : List ℕ → Position → ℕ
+stepOpens s q = onwardOpens (buckets s - q .bucket) s (q .bucket) (q .count)
+
 -- What request 2 promises: the walk from the start over an accepted cache, whose chains have the lengths f, meets each record once, as many as the
 -- check counts; a walk on any buffer, from any position, ends; a chain never ends, each record on it keeping the rules, exactly where the largest count
--- still gives a record of it; and where c records are to be passed, at most c + 1 of the chain are opened.
+-- still gives a record of it; and a step opens at most one record more than its count.
 pub record Pages (s : List ℕ) : Type 0 where
   pub each-once : Accepted s → (f : ℕ → ℕ) → Lengths s (buckets s) f → EachOnce s (allRecords s f)
   pub as-many : Accepted s → (f : ℕ → ℕ) → Lengths s (buckets s) f → length (allRecords s f) ≡ check s .icons
   pub lists : Accepted s → (f : ℕ → ℕ) → Lengths s (buckets s) f → Lists s (allRecords s f)
   pub ends : (q : Position) → (m : ℕ) × (m ≤ mostHanded s) × Ends s q m
   pub endless : headerFault s .number ≡ 0 → (k : ℕ) → k < buckets s → (AtTheLargestCount s k ↔ Turns s k)
-  pub opens : (k c : ℕ) → stepWalk s k c .opened ≤ suc c
+  pub opens : (q : Position) → stepOpens s q ≤ suc (q .count)

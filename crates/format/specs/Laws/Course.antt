@@ -1,5 +1,5 @@
 -- What the first N steps of a chain can be like: one of four ways, and one is always at hand.
-use Prim.Native.Nat.{ℕ, zero, suc, _+_, _-_, _≤_, _<_}
+use Prim.Native.Nat.{ℕ, zero, suc, _+_, _-_, _<_}
 use mathlib.Core.Path.{_≡_, refl}
 use mathlib.Core.List.{List}
 use native.Mathlib.Omega.{arith}
@@ -8,9 +8,9 @@ use borrow.Author.Tests.{le-leb, lt-leb}
 use lib.ListN.{length}
 use Rattle.format.specs.Number.{inside}
 use Rattle.format.specs.Fault.{fault, noFault}
-use Rattle.format.specs.Header.{endValue, bucketField}
+use Rattle.format.specs.Header.{endValue}
 use Rattle.format.specs.Record.{recordFault, nameOf}
-use Rattle.format.specs.Chain.{walk, walkEnds, walkBucket}
+use Rattle.format.specs.Chain.{walkEnds, walkBucket}
 use Rattle.format.specs.Words.{link, linkField, Inside, Keeps, KeepsAt, KeepsBelow, NoneBelow, Holds, Breaks}
 use Rattle.format.specs.declared.Ending.{Ending}
 use Rattle.format.specs.declared.Ending.the-variants.{Ended, Met, Broken, Stopped}
@@ -18,7 +18,7 @@ use Rattle.format.specs.Laws.Below.{below-suc}
 use Rattle.format.specs.Laws.Faults.{orElse-next, orElse-first}
 use Rattle.format.specs.Laws.Names.{equal-or-not}
 use Rattle.format.specs.Laws.Walk.{same-ending}
-use Rattle.format.specs.Laws.Along.{at-most-one, walk-ends, walk-meets, walk-breaks, walk-lasts}
+use Rattle.format.specs.Laws.Along.{walk-ends, walk-meets, walk-breaks, walk-lasts}
 
 pub data Course (s name : List ℕ) (k N : ℕ) : Type 0 where
   ends : {n : ℕ} → n < N → Holds s k n → NoneBelow s name k n → Course s name k N
@@ -89,13 +89,3 @@ module _ (s name : List ℕ) (k o : ℕ) where
 
   pub walk-tells : {e : Ending} {p : ℕ} → walkBucket s name k o ≡ walkEnds e p → Told s k e
   walk-tells q = rw (same-ending q) at (told (course s name k (length s - 10 - o)))
-
-  -- a walk opens no more records than it may
-  opens : (N : ℕ) → Course s name k N → walk N s name k (bucketField s k) o .opened ≤ o + N
-  opens N (ends {n = n} l h none) = rw (walk-ends s name k o l h none) (omega arith)
-  opens N (meets {n = n} l keeps none here same) = rw (walk-meets s name k o l keeps none here same) (omega arith)
-  opens N (breaks {n = n} {x = x} l b none) = rw (walk-breaks s name k o l b none) (omega (arith, at-most-one x))
-  opens N (lasts keeps none) = rw (walk-lasts s name k o N keeps none) (omega arith)
-
-  pub walk-opens : (N : ℕ) → walk N s name k (bucketField s k) o .opened ≤ o + N
-  walk-opens N = opens N (course s name k N)
