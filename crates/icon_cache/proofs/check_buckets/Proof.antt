@@ -17,7 +17,7 @@ use Rattle.format.specs.declared.Ending.{Ending}
 use Rattle.format.specs.Call.{checkBuckets}
 use Rattle.format.specs.Laws.Header.{header-right}
 use Rattle.format.specs.Laws.Buckets.{bucket-ended, bucket-met, bucket-broken, bucket-endless}
-use Rattle.tables.specs.declared.Tables.{Tables}
+use Rattle.tables.specs.Laws.{right-buckets}
 use Rattle.chains.proofs.Endings.{ended-or-met}
 use Rattle.icon_cache.proofs.check_buckets.Statement.{statement}
 use Rattle.icon_cache.proofs.check_buckets.Tie as tie
@@ -67,7 +67,7 @@ slice-aggregate-walk c = refl
 walk-requires : tie.Need-walk-requires Inv-loop μ-loop
 walk-requires c κs =
     let start = c .before .before .before .before in
-    (start .pre, omega (arith, ap (λ (t : Tables). t .buckets) (start .pre .tables)))
+    (start .pre, omega (arith, right-buckets (start .pre)))
 
 enum-known-ending : tie.Need-enum-known-ending Inv-loop μ-loop
 enum-known-ending c = c .match .keys1
@@ -84,7 +84,7 @@ bucket-field-requires : tie.Need-bucket-field-requires Inv-loop μ-loop
 bucket-field-requires c κs =
     let l = c .before .before .before .before .before in
     let start = l .before .before in
-    rw (start .pre .tables) (omega (arith, header-right (now (start .args .cache)) (start .pre .header), ap (λ (t : Tables). t .buckets) (start .pre .tables)))
+    rw (start .pre .tables) (omega (arith, header-right (now (start .args .cache)) (start .pre .header), right-buckets (start .pre)))
 
 returns-2 : tie.Need-returns-2 Inv-loop μ-loop
 returns-2 c =

@@ -27,6 +27,7 @@ use Rattle.format.specs.Laws.Course.{walk-tells}
 use Rattle.format.specs.Laws.Lookup.{query-unallowed, query-allowed, query-right, lookup-refuses, lookup-ends, answer-keeps}
 use Rattle.format.specs.Laws.Demand.{lookup-demand}
 use Rattle.tables.specs.Tables.{Right, bucketFieldOf}
+use Rattle.tables.specs.Laws.{right-buckets}
 use Rattle.tables.specs.declared.Tables.{Tables}
 use Rattle.icon_cache.proofs.lookup.Statement.{statement}
 use Rattle.icon_cache.proofs.lookup.Tie as tie
@@ -50,9 +51,6 @@ asks c = query-right _ _ (may-be (c .before .before .before)) (sound c)
 right : (c : tie.After-read) → Right (now (start (c .before .before .before .before) .args .cache)) (c .read .result)
 right c = record { header = sound (c .before); tables = c .read .ensures }
 
-counted : (c : tie.After-read) → c .read .result .buckets ≡ buckets (now (start (c .before .before .before .before) .args .cache))
-counted c = ap (λ (t : Tables). t .buckets) (c .read .ensures)
-
 -- the bucket walked is the name's
 abbrev bucket : tie.After-struct-known4 → ℕ
 bucket c = c .before .before .before .before .before .before .before .before .asked .result .hash % c .before .before .read .result .buckets
@@ -60,7 +58,7 @@ bucket c = c .before .before .before .before .before .before .before .before .as
 bucket-is : (c : tie.After-struct-known4) → let a = start-of-walk c .args in bucket c ≡ bucketOf (now (a .cache)) (now (a .name))
 bucket-is c =
     let may = c .before .before .before .before .before .before in
-    hash-bucket _ _ (may .before .before .asked .ensures .1 ∙ allowed-hash _ (may-be may)) (counted (c .before .before))
+    hash-bucket _ _ (may .before .before .asked .ensures .1 ∙ allowed-hash _ (may-be may)) (right-buckets (right (c .before .before)))
 
 bucket-below : (c : tie.After-read)
     → let a = start (c .before .before .before .before) .args in bucketOf (now (a .cache)) (now (a .name)) < buckets (now (a .cache))
@@ -119,7 +117,7 @@ cast-bucket : tie.Need-cast-bucket
 cast-bucket c = search needs
 
 rem-bucket : tie.Need-rem-bucket
-rem-bucket c = rw (counted (c .before .before)) (header-right _ (right (c .before .before) .header) .buckets-some)
+rem-bucket c = rw (right-buckets (right (c .before .before))) (header-right _ (right (c .before .before) .header) .buckets-some)
 
 sub-walk : tie.Need-sub-walk
 sub-walk c = omega (arith, header-right _ (right (c .before .before) .header) .header-inside)

@@ -1,7 +1,7 @@
 -- `records::judge_images` meets its contract: the test asks what rule 10 asks, the images of a list that keeps it end inside, and the laws
 -- `list-broken` and `list-kept` say which rule is the first to be broken.
 use Prim.Native.Nat.{_+_, _*_, _≤_}
-use mathlib.Core.Path.{_≡_, ap, sym, _∙_}
+use mathlib.Core.Path.{_≡_, sym, _∙_}
 use mathlib.Core.Bool.{and-eq-true-iff}
 use native.Mathlib.Omega.{arith}
 use borrow.Author.Needs.{needs}
@@ -13,7 +13,7 @@ use Rattle.format.specs.Record.{imagesAt, listRight}
 use Rattle.format.specs.Laws.Header.{header-right}
 use Rattle.format.specs.Laws.Reads.{list-ends}
 use Rattle.format.specs.Laws.Records.{list-broken, list-kept}
-use Rattle.tables.specs.declared.Tables.{Tables}
+use Rattle.tables.specs.Laws.{right-directories}
 use Rattle.records.proofs.judge_images.Statement.{statement}
 use Rattle.records.proofs.judge_images.Tie as tie
 
@@ -57,7 +57,7 @@ add-images c = search needs
 images-requires : tie.Need-images-requires
 images-requires c κs =
     let start = c .before .before .before .before .before in
-    let count = ap (λ (t : Tables). t .directories) (start .pre .0 .tables) in (
+    let count = right-directories (start .pre .0) in (
       omega (arith, count, header-right _ (start .pre .0 .header) .directories-few),
       count,
       omega (arith, ends-inside (c .before), c .u32-at2 .ensures),

@@ -16,7 +16,7 @@ use Rattle.format.specs.Laws.Hashes.{hash-bucket}
 use Rattle.format.specs.Laws.Header.{header-right}
 use Rattle.format.specs.Laws.Records.{name-unread, name-foreign, name-home}
 use Rattle.text.proofs.Tags.{tag-whole, tag-not-whole}
-use Rattle.tables.specs.declared.Tables.{Tables}
+use Rattle.tables.specs.Laws.{right-buckets}
 use Rattle.records.proofs.judge_name.Statement.{statement}
 use Rattle.records.proofs.judge_name.Tie as tie
 
@@ -28,7 +28,7 @@ abbrev start-of-all : tie.After-struct-known2 → tie.Start
 start-of-all c = start (c .before .before .before .before)
 
 counted : (c : tie.Start) → c .args .t .buckets ≡ buckets (now (c .args .cache))
-counted c = ap (λ (t : Tables). t .buckets) (c .pre .0 .tables)
+counted c = right-buckets (c .pre .0)
 
 named : (c : tie.After-read-name)
     → let a = start c .args in isWhole (c .read-name .result .text) ≡ nameRight (now (a .cache)) (a .offset)

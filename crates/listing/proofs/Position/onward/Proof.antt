@@ -2,7 +2,7 @@
 -- from the position's bucket on. Each way out is a law of the definition (`onward-stopped`, `onward-broken`), and one more turn is
 -- `onward-ended` or `onward-met`.
 use Prim.Native.Nat.{ℕ, suc, _+_, _-_, _≤_}
-use mathlib.Core.Path.{_≡_, refl, ap, sym, _∙_}
+use mathlib.Core.Path.{_≡_, refl, sym, _∙_}
 use mathlib.Core.Logic.{_⊎_}
 use mathlib.Core.List.{List, []}
 use native.Mathlib.Numerals.{add-one}
@@ -18,7 +18,7 @@ use Rattle.format.specs.declared.Walk.{Walk}
 use Rattle.format.specs.declared.Ending.{Ending}
 use Rattle.format.specs.Laws.Header.{header-right}
 use Rattle.format.specs.Laws.Walk.{same-ending}
-use Rattle.tables.specs.declared.Tables.{Tables}
+use Rattle.tables.specs.Laws.{right-buckets}
 use Rattle.chains.proofs.Endings.{ended-or-met}
 use Rattle.listing.specs.declared.Position.{Position}
 use Rattle.listing.specs.Listing.{stepWalk, onward}
@@ -75,7 +75,7 @@ passed s q n k c e w tag =
 loop-holds : tie.Need-loop-holds Inv-loop μ-loop
 loop-holds c =
     let start = c .before in
-    let n = ap (λ (t : Tables). t .buckets) (start .pre .0 .tables) in
+    let n = right-buckets (start .pre .0) in
     (omega (arith, start .pre .1 .0), start .pre .1 .1, rw n)
 
 add-count : tie.Need-add-count Inv-loop μ-loop
@@ -87,7 +87,7 @@ slice-aggregate-walk c = refl
 walk-requires : tie.Need-walk-requires Inv-loop μ-loop
 walk-requires c κs =
     let start = c .before .before .before .before in
-    (start .pre .0, omega (arith, ap (λ (t : Tables). t .buckets) (start .pre .0 .tables)))
+    (start .pre .0, omega (arith, right-buckets (start .pre .0)))
 
 enum-known-ending : tie.Need-enum-known-ending Inv-loop μ-loop
 enum-known-ending c = c .match .keys1
