@@ -50,16 +50,11 @@ pub fn scan(part: &[u8], limit: usize) -> Text
     Text::Cut
 }
 
-// 31 times `h`, modulo 2^32.
+// 31 times `h`, modulo 2^32: the `(h << 5) - h` of the note that `read_name` quotes. Bits that leave the 32 are lost, as in C.
 fn times31(h: u32) -> u32
     ensures { λ r. ⌜ r ≡ (31 * h) % 2 ^ 32 ⌝ }
 {
-    let twice = wrapping_add_u32(h, h);
-    let times4 = wrapping_add_u32(twice, twice);
-    let times8 = wrapping_add_u32(times4, times4);
-    let times16 = wrapping_add_u32(times8, times8);
-    let times32 = wrapping_add_u32(times16, times16);
-    wrapping_sub_u32(times32, h)
+    wrapping_sub_u32(h << 5, h)
 }
 
 // A byte as a signed number, modulo 2^32. 128 is added within 8 bits, where a byte from 128 on wraps, and taken away within 32 bits, where such a
@@ -73,6 +68,17 @@ fn signed(byte: u8) -> u32
 
 // What the string at the front of `part` is as a name, and its hash. One loop serves both: most of a lookup is the reading of the names that it
 // passes. No more than 256 bytes are read.
+//
+// The hash is computed as the freedesktop note (source document 000) prints it under "Notes", in `icon_str_hash`, each step modulo 2^32:
+//
+//     unsigned int h = *p;
+//
+//     if (h)
+//       for (p += 1; *p != '\0'; p++)
+//         h = (h << 5) - h + *p;
+//
+// `times31` is the note's `(h << 5) - h`, and `signed` its `*p`. Here the first byte goes through the loop too: from 0, `(0 << 5) - 0 + *p` is `*p`.
+// `if (h)` is left out: the first byte of an allowed name is not zero, so the test always holds.
 pub fn read_name(part: &[u8]) -> Name
     ensures text { λ r. ⌜ r .text ≡ text 255 (now (part .entry)) ⌝ }
     ensures hash { λ r. ⌜ r .hash ≡ hash (take 255 (string (now (part .entry)))) ⌝ }
@@ -91,6 +97,7 @@ pub fn read_name(part: &[u8]) -> Name
                 hash,
             };
         }
+        // h = (h << 5) - h + *p
         hash = wrapping_add_u32(times31(hash), signed(byte));
         i += 1;
     }
