@@ -44,7 +44,7 @@ checkBuckets (suc n) s k o =
       | Stopped f ↦ checked 12 (bucketField s k) 0 0 (w .opened)
     ]
 
--- the check: 1 to 6, then the chains of all buckets from 0 up; with a refusal directories and icons are 0
+-- the check: 1 to 6 and 16, then the chains of all buckets from 0 up; with a refusal directories and icons are 0
 unfoldable pub check : List ℕ → CheckAnswer
 check s =
     let f = tablesFault s in
@@ -87,7 +87,7 @@ answerWords s words a =
 abbrev pub lookupWords : List ℕ → List ℕ → List ℕ → List ℕ
 lookupWords s name words = answerWords s words (lookup s name (length words))
 
--- what is judged of a directory index: 1 to 5, then 15, then 6 on its path
+-- what is judged of a directory index: 1 to 5, then 15, then 6 and 16 on its path
 unfoldable pub directoryFault : List ℕ → ℕ → Fault
 directoryFault s i = headerFault s orElse given (not (ltb i (directories s))) 15 0 orElse pathFault s i
 

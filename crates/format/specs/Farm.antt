@@ -1,12 +1,15 @@
--- The farm cache of document 01, and its examples P1 to P12 as one list.
+-- The farm cache of document 01, its examples P1 to P12 as one list, and the paths of request 4 as another.
 use Prim.Native.Nat.{ℕ, _+_}
-use mathlib.Core.List.{List, [], _∷_, _++_}
+use Prim.Native.Char.{code}
+use Prim.Native.String.{String, [] as []ᵗ, _∷_ as _∷ᵗ_, _++_ as _++ᵗ_}
+use mathlib.Core.List.{List, [], _∷_, _++_, map, flatMap}
 use mathlib.Core.Bool.{Bool, true, _&&_}
 use lib.ListN.{length, take, drop, replicate}
 use lib.Dec.{T, eqb}
 use Rattle.format.specs.Number.{be}
 use Rattle.format.specs.Fault.{_orElse_}
 use Rattle.format.specs.Text.{string, text, isWhole, sameBytes, signed, hashFrom, hashNumbers, hash, allowed}
+use Rattle.format.specs.Segments.{segments, segmentRight, allRight}
 use Rattle.format.specs.Header.{headerFault, pathFault, pathsFault, tablesFault}
 use Rattle.format.specs.Record.{imagesFault, nameFault, listFault, recordFault, imageWords}
 use Rattle.format.specs.Chain.{walk}
@@ -101,6 +104,44 @@ examples =
     names farm 2 (directoryIs 15 0) [] ∷
     []
 
-examples-hold : T (all examples)
-unfolding all holds examples lent looped patched farm cow oat pig ewe sameCheck sameLookup sameDirectory check checkBuckets queryFault lookup lookupEnds metAnswer answerWords directoryFault directory directoryPath walk recordFault nameFault listFault imagesFault imageWords headerFault pathFault pathsFault tablesFault _orElse_ text string isWhole sameBytes signed hashFrom hashNumbers hash allowed be
+-- the bytes of an ASCII text
+unfoldable pub bytes : String → List ℕ
+bytes []ᵗ = []
+bytes (c ∷ᵗ t) = code c ∷ bytes t
+
+-- the farm cache with this path, at its end, for directory 0
+unfoldable pub withPath : String → List ℕ
+withPath path = patched 100 (0 ∷ 0 ∷ 0 ∷ 126 ∷ []) farm ++ bytes path ++ (0 ∷ [])
+
+-- a path that is handed back, and one that is refused
+unfoldable pub good : String → Example
+good path = names (withPath path) 0 (directoryIs 0 0) (bytes path)
+
+unfoldable pub refused : ℕ → String → Example
+refused number path = names (withPath path) 0 (directoryIs number 100) []
+
+-- a segment alone, first, in the middle and last
+unfoldable pub everywhere : String → List String
+everywhere p = p ∷ (p ++ᵗ "/a") ∷ ("a/" ++ᵗ p ++ᵗ "/b") ∷ ("a/" ++ᵗ p) ∷ []
+
+unfoldable pub pathExamples : List Example
+pathExamples =
+    map good (flatMap everywhere ("..." ∷ "a.." ∷ ".x" ∷ "x/.y" ∷ [])) ++
+    map (refused 16) (flatMap everywhere ("." ∷ ".." ∷ [])) ++
+    map (refused 16) ("a/" ∷ "a//" ∷ "a//b" ∷ "../../photos" ∷ []) ++
+    -- a leading slash stays 6
+    map (refused 6) ("" ∷ "/" ∷ "//" ∷ "/a" ∷ "/.." ∷ []) ++
+    -- straight after 6 of the same path, and before the next path
+    checks (withPath "..") (checked 16 100 0 0 0) ∷
+    checks (patched 111 (bytes "/4") (withPath "..")) (checked 16 100 0 0 0) ∷
+    checks (patched 111 (bytes "..") (withPath "/a")) (checked 6 100 0 0 0) ∷
+    checks (patched 111 (bytes "..") farm) (checked 16 104 0 0 0) ∷
+    -- only its own directory is refused, and a lookup looks at no path
+    names (patched 111 (bytes "..") farm) 0 (directoryIs 0 0) (bytes "16") ∷
+    names (patched 111 (bytes "..") farm) 1 (directoryIs 16 104) [] ∷
+    looksUp (withPath "..") oat (lent 5) (lookedUp 0 40 1 2) (1 ∷ 0 ∷ 7 ∷ 7 ∷ 7 ∷ []) ∷
+    []
+
+examples-hold : T (all examples && all pathExamples)
+unfolding all holds examples bytes withPath good refused everywhere flatMap pathExamples lent looped patched farm cow oat pig ewe sameCheck sameLookup sameDirectory check checkBuckets queryFault lookup lookupEnds metAnswer answerWords directoryFault directory directoryPath walk recordFault nameFault listFault imagesFault imageWords headerFault segments segmentRight allRight pathFault pathsFault tablesFault _orElse_ text string isWhole sameBytes signed hashFrom hashNumbers hash allowed be
 examples-hold = tt

@@ -1,4 +1,4 @@
--- The header, the directory list and the hash: rules 1 to 6.
+-- The header, the directory list and the hash: rules 1 to 6, and 16.
 use Prim.Native.Nat.{ℕ, zero, suc}
 use mathlib.Core.List.{List}
 use mathlib.Core.Bool.{Bool, not, _&&_}
@@ -7,6 +7,7 @@ use lib.Dec.{ltb, leb, eqb}
 use Rattle.format.specs.Number.{be, entryField, listInside}
 use Rattle.format.specs.Fault.{noFault, given, _orElse_}
 use Rattle.format.specs.Text.{string, text, isWhole}
+use Rattle.format.specs.Segments.{slash, segmentsRight}
 use Rattle.format.specs.declared.Fault.{Fault}
 
 -- no further record
@@ -60,19 +61,21 @@ pathPart s i = drop (be 4 s (pathField s i)) s
 abbrev pub pathOf : List ℕ → ℕ → List ℕ
 pathOf s i = string (pathPart s i)
 
--- what rule 6 asks of the path of directory i: whole, and no "/" (47) first
+-- what rule 6 asks of the path of directory i: whole, and no slash first
 abbrev pub pathRight : List ℕ → ℕ → Bool
-pathRight s i = isWhole (text 1023 (pathPart s i)) && not (eqb (getD (pathOf s i) 0 0) 47)
+pathRight s i = isWhole (text 1023 (pathPart s i)) && not (eqb (getD (pathOf s i) 0 0) slash)
 
--- rule 6 on the path of directory i
+-- rules 6 and 16 on the path of directory i
 unfoldable pub pathFault : List ℕ → ℕ → Fault
-pathFault s i = given (not (pathRight s i)) 6 (pathField s i)
+pathFault s i =
+    given (not (pathRight s i)) 6 (pathField s i)
+    orElse given (not (segmentsRight (pathOf s i))) 16 (pathField s i)
 
--- rule 6 on n paths from directory i on
+-- the same on n paths from directory i on
 unfoldable pub pathsFault : ℕ → List ℕ → ℕ → Fault
 pathsFault zero s i = noFault
 pathsFault (suc n) s i = pathFault s i orElse pathsFault n s (suc i)
 
--- rules 1 to 6
+-- rules 1 to 6 and 16
 unfoldable pub tablesFault : List ℕ → Fault
 tablesFault s = headerFault s orElse pathsFault (directories s) s 0

@@ -7,6 +7,7 @@ pub mod Reads
 pub mod Strings
 pub mod Hashes
 pub mod Names
+pub mod Segments
 pub mod Header
 pub mod Paths
 pub mod Images

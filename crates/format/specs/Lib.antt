@@ -3,6 +3,7 @@ pub mod Choice
 pub mod Number
 pub mod Fault
 pub mod Text
+pub mod Segments
 pub mod Header
 pub mod Record
 pub mod Chain

@@ -14,12 +14,16 @@ string [] = []
 string (zero ∷ t) = []
 string (suc b ∷ t) = suc b ∷ string t
 
+-- what a string is that a zero byte ends after n bytes
+abbrev pub ended : ℕ → Text
+ended n = if eqb n 0 then Empty else Whole n
+
 -- what the string at the front of t is, within the limit: too long if its first limit + 1 bytes lie inside without a zero byte, else cut off
 -- if no zero byte comes
 unfoldable pub text : ℕ → List ℕ → Text
 text limit t =
     let n = length (string t) in
-    if ltb limit n then Long else if leb (length t) n then Cut else if eqb n 0 then Empty else Whole n
+    if ltb limit n then Long else if leb (length t) n then Cut else ended n
 
 unfoldable pub isWhole : Text → Bool
 isWhole (Whole n) = true

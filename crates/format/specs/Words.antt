@@ -73,7 +73,7 @@ pub record Turns (s : List ℕ) (k : ℕ) : Type 0 where
   pub endless : NeverEnds s k
   pub keeps : (n : ℕ) → Keeps s k (link s k n)
 
--- none of 1 to 6 stands
+-- none of 1 to 6 and 16 stands
 abbrev pub Sound : List ℕ → Type 0
 Sound s = tablesFault s .number ≡ 0
 
@@ -82,7 +82,7 @@ pub record HeldBefore (s : List ℕ) (k : ℕ) : Type 0 where
   pub sound : Sound s
   pub lower : (j : ℕ) → j < k → (n : ℕ) × Holds s j n
 
--- none of 1 to 6 stands, and every chain holds
+-- none of 1 to 6 and 16 stands, and every chain holds
 abbrev pub Accepted : List ℕ → Type 0
 Accepted s = HeldBefore s (buckets s)
 

@@ -18,7 +18,7 @@ use format::Fault;
 use format::LookupAnswer;
 use tables::Tables;
 
-// The check's answer where `fault` is one of the rules 1 to 6.
+// The check's answer where `fault` is one of the rules 1 to 6 and 16.
 fn refused(fault: Fault) -> CheckAnswer
     ensures { λ r. ⌜ r ≡ checked (fault .number) (fault .place) 0 0 0 ⌝ }
 {
@@ -31,7 +31,7 @@ fn refused(fault: Fault) -> CheckAnswer
     }
 }
 
-// The check of all chains, in a cache that keeps the rules 1 to 6.
+// The check of all chains, in a cache that keeps the rules 1 to 6 and 16.
 fn check_buckets(cache: &[u8], t: Tables) -> CheckAnswer
     requires { ⌜ Right (now cache) t ⌝ }
     ensures { λ r. ⌜ r ≡ checkBuckets (buckets (now (cache .entry))) (now (cache .entry)) 0 0 ⌝ }

@@ -29,7 +29,7 @@ bucketFieldOf t k = entryField (t .«hash_at») k
 abbrev pub pathFieldOf : Tables → ℕ → ℕ
 pathFieldOf t i = entryField (t .«directories_at») i
 
--- what is judged of the path of directory i, and where it stands if it keeps the rule
+-- what is judged of the path of directory i, and where it stands if it keeps the rules
 abbrev pub pathJudged : List ℕ → ℕ → JudgedPath
 pathJudged s i = record {
   fault = pathFault s i;

@@ -1,4 +1,4 @@
-// The header of a cache, its directory list and its hash: rules 1 to 6.
+// The header of a cache, its directory list and its hash: rules 1 to 6, and 16.
 ghost use mathlib.Core.Path.{_≡_};
 ghost use Prim.Native.Nat.{_+_, _^_, _≤_, _<_};
 ghost use lib.ListN.{length};
@@ -18,7 +18,7 @@ pub struct Tables {
     pub directories: usize,
 }
 
-// What is judged of a path, and where it stands if it keeps the rule; else its start and its length are 0.
+// What is judged of a path, and where it stands if it keeps the rules; else its start and its length are 0.
 pub struct JudgedPath {
     pub fault: Fault,
     pub start: usize,
@@ -135,12 +135,12 @@ pub fn path_field(t: Tables, i: usize) -> usize
     t.directories_at + 4 + 4 * i
 }
 
-// A path that breaks rule 6, named in `field`.
-fn bad_path(field: usize) -> JudgedPath
-    ensures { λ r. ⌜ r ≡ pathBroken 6 field ⌝ }
+// A path that breaks the rule `number`, named in `field`.
+fn bad_path(number: u32, field: usize) -> JudgedPath
+    ensures { λ r. ⌜ r ≡ pathBroken number field ⌝ }
 {
     let fault = Fault {
-        number: 6,
+        number,
         place: field,
     };
     JudgedPath {
@@ -150,7 +150,7 @@ fn bad_path(field: usize) -> JudgedPath
     }
 }
 
-// Rule 6 on the path of directory `i`, in a cache whose header breaks no rule, and where the path stands if it keeps the rule.
+// Rules 6 and 16 on the path of directory `i`, in a cache whose header breaks no rule, and where the path stands if it keeps both.
 pub fn path(cache: &[u8], t: Tables, i: usize) -> JudgedPath
     requires { ⌜ Right (now cache) t ⌝ }
     requires { ⌜ i < directories (now cache) ⌝ }
@@ -159,27 +159,32 @@ pub fn path(cache: &[u8], t: Tables, i: usize) -> JudgedPath
     let field = path_field(t, i);
     let start = u32_at(cache, field) as usize;
     let part = text::from(cache, start);
-    match text::scan(part, 1023) {
+    let read = text::read_path(part);
+    let segments_right = read.segments_right;
+    let text = read.text;
+    match text {
         Text::Whole(length) => {
             if part[0] == b'/' {
-                bad_path(field)
-            } else {
-                let fault = Fault {
-                    number: 0,
-                    place: 0,
-                };
-                JudgedPath {
-                    fault,
-                    start,
-                    length,
-                }
+                return bad_path(6, field);
+            }
+            if !segments_right {
+                return bad_path(16, field);
+            }
+            let fault = Fault {
+                number: 0,
+                place: 0,
+            };
+            JudgedPath {
+                fault,
+                start,
+                length,
             }
         }
-        _ => bad_path(field),
+        _ => bad_path(6, field),
     }
 }
 
-// The first path that breaks rule 6, in a cache whose header breaks no rule.
+// The first path that breaks rule 6 or 16, and the rule, in a cache whose header breaks no rule.
 pub fn paths(cache: &[u8], t: Tables) -> Fault
     requires { ⌜ Right (now cache) t ⌝ }
     ensures { λ r. ⌜ r ≡ pathsFault (directories (now (cache .entry))) (now (cache .entry)) 0 ⌝ }

@@ -2,9 +2,12 @@
 // A string is handed over as the part of the buffer from its offset on.
 ghost use mathlib.Core.Path.{_≡_};
 ghost use mathlib.Core.Bool.{_&&_};
-ghost use Prim.Native.Nat.{_*_, _%_, _^_, _≤_};
+ghost use mathlib.Core.List.{List, [], _∷_};
+ghost use Prim.Native.Nat.{ℕ, _*_, _%_, _^_, _≤_};
 ghost use lib.ListN.{length, take, drop};
-ghost use Rattle.format.specs.Text.{string, text, isWhole, sameBytes, signed, hash, allowed};
+ghost use Rattle.format.specs.Text.{string, ended, text, isWhole, sameBytes, signed, hash, allowed};
+ghost use Rattle.format.specs.Segments.{segmentsRight};
+ghost use Rattle.text.specs.Segments.{rightWith};
 use format::Text;
 use std::num::wrapping_add_u8;
 use std::num::wrapping_add_u32;
@@ -14,6 +17,12 @@ use std::num::wrapping_sub_u32;
 pub struct Name {
     pub text: Text,
     pub hash: u32,
+}
+
+// A string as a path, and whether the segments of its first 1,023 bytes are right: of all of them, unless it is too long.
+pub struct Path {
+    pub text: Text,
+    pub segments_right: bool,
 }
 
 // Whether a name may be asked for, and its hash where it may.
@@ -33,21 +42,11 @@ pub fn from(cache: &[u8], at: usize) -> &[u8]
     }
 }
 
-// What the string at the front of `part` is. No more than `limit` + 1 bytes are read.
-pub fn scan(part: &[u8], limit: usize) -> Text
-    ensures { λ r. ⌜ r ≡ text limit (now (part .entry)) ⌝ }
+// What a string is that a zero byte ends after `n` bytes.
+fn ended(n: usize) -> Text
+    ensures { λ r. ⌜ r ≡ ended n ⌝ }
 {
-    let mut i = 0;
-    while i < part.len() {
-        if part[i] == 0 {
-            return if i == 0 { Text::Empty } else { Text::Whole(i) };
-        }
-        if i == limit {
-            return Text::Long;
-        }
-        i += 1;
-    }
-    Text::Cut
+    if n == 0 { Text::Empty } else { Text::Whole(n) }
 }
 
 // 31 times `h`, modulo 2^32: the `(h << 5) - h` of the note that `read_name` quotes. Bits that leave the 32 are lost, as in C.
@@ -88,8 +87,10 @@ pub fn read_name(part: &[u8]) -> Name
     while i < part.len() {
         let byte = part[i];
         if byte == 0 {
-            let text = if i == 0 { Text::Empty } else { Text::Whole(i) };
-            return Name { text, hash };
+            return Name {
+                text: ended(i),
+                hash,
+            };
         }
         if i == 255 {
             return Name {
@@ -104,6 +105,76 @@ pub fn read_name(part: &[u8]) -> Name
     Name {
         text: Text::Cut,
         hash,
+    }
+}
+
+// The segments of a path as far as it is read: whether each that a slash ended is right, and how many dots the last one is. Three dots stand for any
+// beginning of a segment that is right however it goes on.
+struct Segments {
+    right: bool,
+    dots: usize,
+}
+
+impl Segments {
+    // Whether the segments are right if the path ends here.
+    fn right_at_end(self) -> bool
+        ensures { λ r. ⌜ r ≡ rightWith self [] ⌝ }
+    {
+        if self.dots < 3 { false } else { self.right }
+    }
+
+    // The segments after one byte more.
+    fn after(self, byte: u8) -> Segments
+        ensures { λ r. ⌜ ((t : List ℕ) → rightWith r t ≡ rightWith self (byte ∷ t)) ⌝ }
+    {
+        if byte == b'/' {
+            return Segments {
+                right: self.right_at_end(),
+                dots: 0,
+            };
+        }
+        let dots = if byte == b'.' && self.dots < 3 {
+            self.dots + 1
+        } else {
+            3
+        };
+        Segments {
+            right: self.right,
+            dots,
+        }
+    }
+}
+
+// What the string at the front of `part` is as a path, and whether its segments are right. One loop serves both. No more than 1,024 bytes are read.
+pub fn read_path(part: &[u8]) -> Path
+    ensures text { λ r. ⌜ r .text ≡ text 1023 (now (part .entry)) ⌝ }
+    ensures segments { λ r. ⌜ r .«segments_right» ≡ segmentsRight (take 1023 (string (now (part .entry)))) ⌝ }
+{
+    let mut segments = Segments {
+        right: true,
+        dots: 0,
+    };
+    let mut i = 0;
+    while i < part.len() {
+        let byte = part[i];
+        if byte == 0 {
+            return Path {
+                text: ended(i),
+                segments_right: segments.right_at_end(),
+            };
+        }
+        if i == 1023 {
+            return Path {
+                text: Text::Long,
+                segments_right: segments.right_at_end(),
+            };
+        }
+        segments = segments.after(byte);
+        i += 1;
+    }
+    Path {
+        text: Text::Cut,
+        segments_right: segments.right_at_end(),
     }
 }
 

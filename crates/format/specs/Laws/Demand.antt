@@ -1,7 +1,7 @@
 -- The check's answer in the words of demand 3, and demand 3.
 use Prim.Native.Nat.{ℕ, suc, _+_, _-_, _≤_, _<_}
 use mathlib.Core.Path.{_≡_, sym, ap, _∙_}
-use mathlib.Core.Logic.{_↔_, Iff·trans}
+use mathlib.Core.Logic.{_↔_, Iff·trans, ⊎-elim}
 use mathlib.Core.List.{List}
 use mathlib.Core.Bool.{true}
 use native.Mathlib.Nat.{mod-lt}
@@ -52,7 +52,9 @@ module _ {s : List ℕ} where
   opens (looped l) = omega (arith, opened (loops l))
 
   loop-of : Verdict s → check s .number ≡ 12 → (k : ℕ) × Loops s k
-  loop-of (unsound e) q = absurd (omega (arith, number (check-refuses s e (λ z. omega arith)), tables-number s, same-number e))
+  loop-of (unsound e) q =
+      let told = number (check-refuses s e (λ z. omega arith)) in
+      absurd (⊎-elim (λ l. omega (arith, same-number e)) (λ l. omega (arith, same-number e)) (tables-number s))
   loop-of (accepted acc) q = let (f, h) = lengths acc in absurd (omega (arith, number (accepts acc f h)))
   loop-of (broken l held b) q = let (f, h) = lengths held in absurd (omega (arith, number (breaks f l (held .sound) h b), broken-number b))
   loop-of (looped {k = k} l) q = (k, l)

@@ -42,7 +42,7 @@ module _ (s : List ℕ) (i : ℕ) where
   path-ends : directoryFault s i .number ≡ 0 → length (pathOf s i) < length (pathPart s i)
   unfolding directoryFault pathFault
   path-ends e =
-      let kept = orElse-none _ _ (orElse-none _ _ e .1) .1 in
+      let kept = orElse-none _ _ (orElse-none _ _ (orElse-none _ _ e .1) .1) .0 in
       let right = not-false _ (given-none (not (pathRight s i)) 5 (pathField s i) kept) in
       whole-string 1023 (pathPart s i) (and-eq-true-iff _ _ .0 right .0) .ended
 

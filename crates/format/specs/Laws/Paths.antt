@@ -1,16 +1,17 @@
--- Rule 6 on the paths, one after the other, and the first byte of a string.
+-- Rules 6 and 16 on the paths, one after the other, and the first byte of a string.
 use Prim.Native.Nat.{ℕ, zero, suc, _+_, _<_}
-use mathlib.Core.Path.{_≡_, refl}
+use mathlib.Core.Path.{_≡_, refl, _∙_}
 use mathlib.Core.List.{List, [], _∷_}
-use mathlib.Core.Bool.{true, false, and-false}
+use mathlib.Core.Bool.{true, false, not, and-false}
 use native.Mathlib.Numerals.{add-one}
 use native.Mathlib.Omega.{arith}
 use borrow.Author.Tests.{eq-eqb, ne-eqb}
 use lib.ListN.{getD}
 use Rattle.format.specs.Fault.{fault, noFault}
 use Rattle.format.specs.Text.{string, text, isWhole}
-use Rattle.format.specs.Header.{pathField, pathPart, pathFault, pathsFault}
-use Rattle.format.specs.Laws.Faults.{orElse-first, orElse-next}
+use Rattle.format.specs.Segments.{slash, segmentsRight}
+use Rattle.format.specs.Header.{pathField, pathPart, pathOf, pathRight, pathFault, pathsFault}
+use Rattle.format.specs.Laws.Faults.{orElse-first, orElse-next, broken-speaks, kept-passes}
 
 -- a string starts with the first byte of its part; where it is empty that is 0
 pub string-first : (t : List ℕ) → getD (string t) 0 0 ≡ getD t 0 0
@@ -19,21 +20,29 @@ string-first [] = refl
 string-first (zero ∷ t) = refl
 string-first (suc b ∷ t) = refl
 
--- the ways in which the path of directory i breaks rule 6, and how it keeps it
+-- the ways in which the path of directory i breaks rule 6 or 16, and how it keeps both
 module _ (s : List ℕ) (i : ℕ) where
   pub path-not-whole : isWhole (text 1023 (pathPart s i)) ≡ false → pathFault s i ≡ fault 6 (pathField s i)
   unfolding pathFault
-  path-not-whole e = rw (pathFault, e)
+  path-not-whole e = broken-speaks (not (pathRight s i)) _ _ _ (rw e)
 
-  pub path-absolute : getD (pathPart s i) 0 0 ≡ 47 → pathFault s i ≡ fault 6 (pathField s i)
+  pub path-absolute : getD (pathPart s i) 0 0 ≡ slash → pathFault s i ≡ fault 6 (pathField s i)
   unfolding pathFault
-  path-absolute e = rw (pathFault, string-first, eq-eqb _ _ e, and-false)
+  path-absolute e = broken-speaks (not (pathRight s i)) _ _ _ (rw (string-first, eq-eqb _ _ e, and-false))
 
-  pub path-kept : isWhole (text 1023 (pathPart s i)) ≡ true → (getD (pathPart s i) 0 0 ≡ 47 → ⊥) → pathFault s i ≡ noFault
-  unfolding pathFault
-  path-kept e relative = rw (pathFault, e, string-first, ne-eqb _ _ relative)
+  module _ (whole : isWhole (text 1023 (pathPart s i)) ≡ true) (relative : getD (pathPart s i) 0 0 ≡ slash → ⊥) where
+    rule-6-kept : not (pathRight s i) ≡ false
+    rule-6-kept = rw (whole, string-first, ne-eqb _ _ relative)
 
--- n paths from directory i on: none is left, the first breaks the rule, or it keeps it
+    pub path-segments : segmentsRight (pathOf s i) ≡ false → pathFault s i ≡ fault 16 (pathField s i)
+    unfolding pathFault
+    path-segments e = kept-passes (not (pathRight s i)) _ _ _ rule-6-kept ∙ rw e
+
+    pub path-kept : segmentsRight (pathOf s i) ≡ true → pathFault s i ≡ noFault
+    unfolding pathFault
+    path-kept e = kept-passes (not (pathRight s i)) _ _ _ rule-6-kept ∙ rw e
+
+-- n paths from directory i on: none is left, the first breaks a rule, or it keeps both
 pub paths-end : (s : List ℕ) (i n : ℕ) → n ≡ 0 → pathsFault n s i ≡ noFault
 unfolding pathsFault
 paths-end s i n e = rw e

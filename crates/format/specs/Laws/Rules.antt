@@ -1,4 +1,4 @@
--- The numbers of the rules on paths and records, which of the rules 1 to 6 speaks, and what a record that keeps the rules tells.
+-- The numbers of the rules on tables and records, which of the rules on tables speaks, and what a record that keeps the rules tells.
 use Prim.Native.Nat.{ℕ, zero, suc, _+_, _*_, _≤_}
 use mathlib.Core.Path.{_≡_, refl, ap}
 use mathlib.Core.Logic.{_⊎_, inl, inr}
@@ -9,10 +9,11 @@ use borrow.Author.Tests.{eqb-true, not-false}
 use lib.ListN.{length}
 use lib.Dec.{lit≤}
 use Rattle.format.specs.Fault.{given, _orElse_}
-use Rattle.format.specs.Header.{directories, headerFault, pathRight, pathFault, pathsFault, tablesFault}
+use Rattle.format.specs.Segments.{segmentsRight}
+use Rattle.format.specs.Header.{directories, headerFault, pathOf, pathRight, pathFault, pathsFault, tablesFault}
 use Rattle.format.specs.Record.{namePart, nameOf, bucketOf, imagesAt, images, nameFault, listFault, recordFault, imagesFault, nameRight, bucketRight, listRight, imageRight}
 use Rattle.format.specs.declared.Fault.{Fault}
-use Rattle.format.specs.Laws.Faults.{given-none, given-most, given-all, orElse-first, orElse-next, orElse-none, orElse-most, orElse-all}
+use Rattle.format.specs.Laws.Faults.{given-none, given-all, orElse-first, orElse-next, orElse-none, orElse-all}
 use Rattle.format.specs.Laws.Header.{header-number}
 use Rattle.format.specs.Laws.Reads.{list-ends}
 use Rattle.format.specs.Laws.Strings.{whole-string}
@@ -24,23 +25,32 @@ pub record RecordRight (s : List ℕ) (k r : ℕ) : Type 0 where
   pub home : bucketOf s (nameOf s r) ≡ k
   pub listed : imagesAt s r + 4 + 8 * images s r ≤ length s
 
--- the numbers of rules 8 to 11
+-- the numbers of rules 1 to 6 and 16, and those of rules 8 to 11
+abbrev pub OfTables : ℕ → Type 0
+OfTables n = (n ≤ 6) ⊎ (n ≡ 16)
+
 abbrev pub OfRecord : ℕ → Type 0
 OfRecord n = (n ≡ 0) ⊎ ((8 ≤ n) × (n ≤ 11))
 
--- one of them, and what is judged after it
-rule : (b : Bool) (n p : ℕ) (y : Fault) → OfRecord n → OfRecord (y .number) → OfRecord ((given b n p orElse y) .number)
-rule b n p y h g = orElse-all OfRecord (given b n p) y (given-all OfRecord b n p (inl refl) h) g
+-- a rule with one of these numbers, and what is judged after it
+rule : (P : ℕ → Type 0) (b : Bool) (n p : ℕ) (y : Fault) → P 0 → P n → P (y .number) → P ((given b n p orElse y) .number)
+rule P b n p y z h g = orElse-all P (given b n p) y (given-all P b n p z h) g
 
 module _ (s : List ℕ) where
-  paths-number : (n i : ℕ) → pathsFault n s i .number ≤ 6
-  unfolding pathsFault pathFault
-  paths-number zero i = lit≤ tt
-  paths-number (suc n) i = orElse-most 6 _ _ (given-most 6 (not (pathRight s i)) 6 _ (lit≤ tt)) (paths-number n (suc i))
+  path-number : (i : ℕ) → OfTables (pathFault s i .number)
+  unfolding pathFault
+  path-number i =
+      rule OfTables (not (pathRight s i)) _ _ _ (inl (lit≤ tt)) (inl (lit≤ tt))
+      (given-all OfTables (not (segmentsRight (pathOf s i))) _ _ (inl (lit≤ tt)) (inr refl))
 
-  pub tables-number : tablesFault s .number ≤ 6
+  paths-number : (n i : ℕ) → OfTables (pathsFault n s i .number)
+  unfolding pathsFault
+  paths-number zero i = inl (lit≤ tt)
+  paths-number (suc n) i = orElse-all OfTables _ _ (path-number i) (paths-number n (suc i))
+
+  pub tables-number : OfTables (tablesFault s .number)
   unfolding tablesFault
-  tables-number = orElse-most 6 _ _ (omega (arith, header-number s)) (paths-number (directories s) 0)
+  tables-number = orElse-all OfTables _ _ (inl (omega (arith, header-number s))) (paths-number (directories s) 0)
 
   pub tables-header : (headerFault s .number ≡ 0 → ⊥) → tablesFault s ≡ headerFault s
   unfolding tablesFault
@@ -57,15 +67,15 @@ module _ (s : List ℕ) where
   images-number : (m at : ℕ) → OfRecord (imagesFault m s at .number)
   unfolding imagesFault
   images-number zero at = inl refl
-  images-number (suc m) at = rule (not (imageRight s at)) _ _ _ (inr (lit≤ tt, lit≤ tt)) (images-number m (at + 8))
+  images-number (suc m) at = rule OfRecord (not (imageRight s at)) _ _ _ (inl refl) (inr (lit≤ tt, lit≤ tt)) (images-number m (at + 8))
 
   module _ (k r : ℕ) where
     pub record-number : OfRecord (recordFault s k r .number)
     unfolding recordFault nameFault listFault
     record-number =
         orElse-all OfRecord _ _
-        (rule (not (nameRight s r)) _ _ _ (inr (lit≤ tt, lit≤ tt)) (given-all OfRecord (not (bucketRight s k r)) _ _ (inl refl) (inr (lit≤ tt, lit≤ tt))))
-        (rule (not (listRight s (imagesAt s r))) _ _ _ (inr (lit≤ tt, lit≤ tt)) (images-number _ _))
+        (rule OfRecord (not (nameRight s r)) _ _ _ (inl refl) (inr (lit≤ tt, lit≤ tt)) (given-all OfRecord (not (bucketRight s k r)) _ _ (inl refl) (inr (lit≤ tt, lit≤ tt))))
+        (rule OfRecord (not (listRight s (imagesAt s r))) _ _ _ (inl refl) (inr (lit≤ tt, lit≤ tt)) (images-number _ _))
 
     pub record-right : recordFault s k r .number ≡ 0 → RecordRight s k r
     unfolding recordFault nameFault listFault

@@ -10,7 +10,7 @@ use lib.ListN.{length, take, drop, getD, List·getD-eq-default}
 use lib.Seq.{take-all, take-length, take-take}
 use lib.Dec.{ltb, leb, eqb}
 use Rattle.format.specs.Choice.{if_then_else_}
-use Rattle.format.specs.Text.{string, text, isWhole, allowed}
+use Rattle.format.specs.Text.{string, ended, text, isWhole, allowed}
 use Rattle.format.specs.declared.Text.{Text}
 use Rattle.format.specs.declared.Text.the-variants.{Whole, Empty, Long, Cut}
 
@@ -93,6 +93,18 @@ judgement limit t (whole e h) =
     let has-bytes : length (string t) ≡ 0 → ⊥ = λ z. omega arith in
     simp (e, le-ltb _ _ (h .within), lt-leb _ _ (h .ended), ne-eqb _ _ has-bytes)
 
+-- what is answered after i bytes: at a zero byte, at one byte more than the limit, and at the end
+module _ (limit : ℕ) (t : List ℕ) (i : ℕ) (passed : Passed t i) where
+  pub text-ended : i < length t → i ≤ limit → getD t i 0 ≡ 0 → ended i ≡ text limit t
+  unfolding text
+  text-ended l h e = rw (passed-stops t i passed e, le-ltb limit i h, lt-leb (length t) i l)
+
+  pub text-long : i ≡ limit → (getD t i 0 ≡ 0 → ⊥) → Long ≡ text limit t
+  text-long e nz = judgement limit t (long (omega (arith, passed-below t i passed nz)))
+
+  pub text-cut : i ≤ limit → length t ≤ i → Cut ≡ text limit t
+  text-cut h l = let e = passed-ends t i passed l in judgement limit t (cut (omega arith) (omega arith))
+
 -- and the answer says what holds of it
 pub judged : (limit : ℕ) (t : List ℕ) → Judged limit t (text limit t)
 unfolding text
@@ -127,6 +139,10 @@ whole-string limit t e = go (judged limit t) e
     go (cut h g) q = absurd (false≢true q)
     go (empty h g) q = absurd (false≢true q)
     go (whole g h) q = h
+
+-- so as many bytes as the limit allows are all of it
+pub whole-within : (limit : ℕ) (t : List ℕ) → isWhole (text limit t) ≡ true → take limit (string t) ≡ string t
+whole-within limit t e = take-all limit (string t) (whole-string limit t e .within)
 
 -- a name that may be asked for is its own string, since no zero byte cuts it, and it is not too long
 pub allowed-string : (name : List ℕ) → allowed name ≡ true → string name ≡ name

@@ -1,4 +1,4 @@
--- `icon_cache::check` meets its contract: a broken rule of the header, then one of a path, is the first of the rules 1 to 6 that is broken
+-- `icon_cache::check` meets its contract: a broken rule of the header, then one of a path, is the first of the rules 1 to 6 and 16 that is broken
 -- (`tables-header`, `tables-paths`), and without one the buckets decide (`check-sound`).
 use Prim.Native.Nat.{ℕ}
 use mathlib.Core.Path.{_≡_, sym, _∙_}

@@ -6,12 +6,11 @@ use mathlib.Core.List.{List}
 use mathlib.Core.Bool.{true}
 use borrow.Author.Needs.{needs}
 use lib.ListN.{take}
-use lib.Seq.{take-all}
 use denote.Ref.{now}
 use Rattle.format.specs.Text.{string, text, isWhole, hash}
 use Rattle.format.specs.Header.{buckets}
 use Rattle.format.specs.Record.{nameOf, bucketOf, nameRight}
-use Rattle.format.specs.Laws.Strings.{whole-string}
+use Rattle.format.specs.Laws.Strings.{whole-within}
 use Rattle.format.specs.Laws.Hashes.{hash-bucket}
 use Rattle.format.specs.Laws.Header.{header-right}
 use Rattle.format.specs.Laws.Records.{name-unread, name-foreign, name-home}
@@ -41,7 +40,7 @@ hashed : (c : tie.After-read-name)
 hashed c right =
     c .read-name .ensures .1
     ∙ ap (λ (t : List ℕ). hash (take 255 (string t))) (c .before .name-part .ensures)
-    ∙ ap hash (take-all 255 _ (whole-string 255 _ right .within))
+    ∙ ap hash (whole-within 255 _ right)
 
 whole : (c : tie.After-struct-known2) → nameRight (now (start-of-all c .args .cache)) (start-of-all c .args .offset) ≡ true
 whole c = sym (named (c .before .before .before .before)) ∙ tag-whole _ (c .before .before .before .match .keys1)

@@ -1,19 +1,23 @@
--- `tables::path` meets its contract. The field, the part that starts with the path and the answer on the string are those of the
--- definitions, and each `return` is one of the laws `path-not-whole`, `path-absolute` and `path-kept`. A whole string has a first byte.
+-- `tables::path` meets its contract. The field, the part that starts with the path, the answer on the string and that on its segments are those of the
+-- definitions, and each `return` is one of the laws `path-not-whole`, `path-absolute`, `path-segments` and `path-kept`. A whole string has a first byte.
 use Prim.Native.Nat.{ℕ, suc}
 use mathlib.Core.Path.{_≡_, _∙_, sym, ap}
 use mathlib.Core.List.{List}
+use mathlib.Core.Bool.{true}
 use native.Mathlib.Omega.{arith}
 use borrow.Author.Needs.{needs}
-use lib.ListN.{length, drop}
+use borrow.Author.Tests.{not-true, not-false}
+use lib.ListN.{length, take, drop}
 use denote.Ref.{now}
 use Rattle.format.specs.Number.{be}
-use Rattle.format.specs.Text.{text, isWhole}
+use Rattle.format.specs.Text.{string, text, isWhole}
+use Rattle.format.specs.declared.Text.the-variants.{Whole}
+use Rattle.format.specs.Segments.{segmentsRight}
 use Rattle.format.specs.Fault.{fault, noFault}
 use Rattle.format.specs.Header.{pathField, pathPart, pathOf, pathFault}
 use Rattle.format.specs.Laws.Header.{HeaderRight, header-right}
-use Rattle.format.specs.Laws.Paths.{path-not-whole, path-absolute, path-kept}
-use Rattle.format.specs.Laws.Strings.{whole-string, whole-length, whole-is-whole}
+use Rattle.format.specs.Laws.Paths.{path-not-whole, path-absolute, path-segments, path-kept}
+use Rattle.format.specs.Laws.Strings.{whole-string, whole-length, whole-is-whole, whole-within}
 use Rattle.text.proofs.Tags.{tag-not-whole}
 use Rattle.tables.specs.Tables.{pathFieldOf, pathJudged, pathBroken}
 use Rattle.tables.proofs.path.Statement.{statement}
@@ -23,9 +27,9 @@ use Rattle.tables.proofs.path.Tie as tie
 judged-broken : (s : List ℕ) (i : ℕ) {x p : ℕ} → pathFault s i ≡ fault (suc x) p → pathJudged s i ≡ pathBroken (suc x) p
 judged-broken s i e = rw e
 
-judged-kept : (s : List ℕ) (i : ℕ) → pathFault s i ≡ noFault
-    → pathJudged s i ≡ record { fault = noFault; start = be 4 s (pathField s i); length = length (pathOf s i) }
-judged-kept s i e = rw e
+judged-kept : (s : List ℕ) (i : ℕ) {a n : ℕ} → pathFault s i ≡ noFault → a ≡ be 4 s (pathField s i) → n ≡ length (pathOf s i)
+    → record { fault = noFault; start = a; length = n } ≡ pathJudged s i
+judged-kept s i e start end = rw (e, start, end)
 
 right : (c : tie.Start) → HeaderRight (now (c .args .cache))
 right c = header-right _ (c .pre .0 .header)
@@ -43,9 +47,28 @@ start-is c = c .u32-at .ensures ∙ ap (be 4 (now (c .before .before .before .ar
 part-is : (c : tie.After-from) → let a = c .before .before .before .before .args in now (c .from .result) ≡ pathPart (now (a .cache)) (a .i)
 part-is c = c .from .ensures ∙ ap (λ n. drop n (now (c .before .before .before .before .args .cache))) (start-is (c .before))
 
-scan-is : (c : tie.After-scan)
-    → let a = c .before .before .before .before .before .args in c .scan .result ≡ text 1023 (pathPart (now (a .cache)) (a .i))
-scan-is c = c .scan .ensures ∙ ap (text 1023) (part-is (c .before))
+text-is : (c : tie.After-read-path)
+    → let a = c .before .before .before .before .before .args in c .read-path .result .text ≡ text 1023 (pathPart (now (a .cache)) (a .i))
+text-is c = c .read-path .ensures .0 ∙ ap (text 1023) (part-is (c .before))
+
+-- in the arm of a whole path: where the path was read, what it is, and that its segments were read to its end
+abbrev read : tie.After-shared-slice-known2 → tie.After-read-path
+read c = c .before .before .before .before
+
+told : (c : tie.After-shared-slice-known2)
+    → let a = read c .before .before .before .before .before .args in text 1023 (pathPart (now (a .cache)) (a .i)) ≡ Whole (c .before .before .text .given .0 .0)
+told c = sym (text-is (read c)) ∙ c .before .before .text .given .1
+
+whole : (c : tie.After-shared-slice-known2)
+    → let a = read c .before .before .before .before .before .args in isWhole (text 1023 (pathPart (now (a .cache)) (a .i))) ≡ true
+whole c = whole-is-whole 1023 _ _ (told c)
+
+segments-are : (c : tie.After-shared-slice-known2)
+    → let a = read c .before .before .before .before .before .args in read c .read-path .result .«segments_right» ≡ segmentsRight (pathOf (now (a .cache)) (a .i))
+segments-are c =
+    read c .read-path .ensures .1
+    ∙ ap (λ (t : List ℕ). segmentsRight (take 1023 (string t))) (part-is (read c .before))
+    ∙ ap segmentsRight (whole-within 1023 _ (whole c))
 
 path-field-requires : tie.Need-path-field-requires
 path-field-requires c κs = omega (arith, right (c .before), field-of (c .before))
@@ -59,41 +82,53 @@ cast-start c = search needs
 from-requires : tie.Need-from-requires
 from-requires c κs = search needs
 
-scan-requires : tie.Need-scan-requires
-scan-requires c κs = search needs
+read-path-requires : tie.Need-read-path-requires
+read-path-requires c κs = search needs
 
-enum-known-length : tie.Need-enum-known-length
-enum-known-length c = search needs
+enum-known-text : tie.Need-enum-known-text
+enum-known-text c = search needs
 
 shared-slice-read-if1 : tie.Need-shared-slice-read-if1
 shared-slice-read-if1 c =
-    let told = sym (c .before .before .before .before .scan .ensures) ∙ c .before .before .length .given .1 in
-    omega (arith, whole-string 1023 _ (whole-is-whole 1023 _ _ told))
+    let is-whole = whole-is-whole 1023 _ _ (sym (read c .read-path .ensures .0) ∙ c .before .before .text .given .1) in
+    omega (arith, whole-string 1023 _ is-whole)
 
 bad-path-requires : tie.Need-bad-path-requires
 bad-path-requires c κs = search needs
 
-bad-path-requires-2 : tie.Need-bad-path-requires-2
-bad-path-requires-2 c κs = search needs
-
 returns : tie.Need-returns
 returns c =
-    let part = c .before .before .before .before .before .before .before in
+    let part = read (c .before .before) .before in
     let slash = rw (part-is part) at (c .before .if1 .taken) in
     c .bad-path .ensures ∙ rw (field-is (part .before .before)) (sym (judged-broken _ _ (path-absolute _ _ slash)))
 
+bad-path-requires-2 : tie.Need-bad-path-requires-2
+bad-path-requires-2 c κs = search needs
+
 returns-2 : tie.Need-returns-2
 returns-2 c =
-    let part = c .before .before .before .before .before .before in
-    let told = sym (scan-is (c .before .before .before .before .before)) ∙ c .before .before .before .length .given .1 in
-    let no-slash = rw (part-is part) at (c .if1 .left) in
-    rw (start-is (part .before), whole-length 1023 _ _ told) (sym (judged-kept _ _ (path-kept _ _ (whole-is-whole 1023 _ _ told) no-slash)))
+    let arm = c .before .before .before in
+    let part = read arm .before in
+    let no-slash = rw (part-is part) at (c .before .before .if1 .left) in
+    let wrong = sym (segments-are arm) ∙ not-true _ (c .before .if2 .taken) in
+    c .bad-path2 .ensures ∙ rw (field-is (part .before .before)) (sym (judged-broken _ _ (path-segments _ _ (whole arm) no-slash wrong)))
+
+bad-path-requires-3 : tie.Need-bad-path-requires-3
+bad-path-requires-3 c κs = search needs
 
 returns-3 : tie.Need-returns-3
 returns-3 c =
-    let scanned = c .before .before in
-    let broken = ap isWhole (sym (scan-is scanned)) ∙ tag-not-whole _ (c .before .match .keys2) in
-    c .bad-path2 .ensures ∙ rw (field-is (scanned .before .before .before)) (sym (judged-broken _ _ (path-not-whole _ _ broken)))
+    let arm = c .before .before in
+    let part = read arm .before in
+    let no-slash = rw (part-is part) at (c .before .if1 .left) in
+    let all-right = sym (segments-are arm) ∙ not-false _ (c .if2 .left) in
+    judged-kept _ _ (path-kept _ _ (whole arm) no-slash all-right) (start-is (part .before)) (whole-length 1023 _ _ (told arm))
+
+returns-4 : tie.Need-returns-4
+returns-4 c =
+    let read = c .before .before in
+    let broken = ap isWhole (sym (text-is read)) ∙ tag-not-whole _ (c .before .match .keys2) in
+    c .bad-path3 .ensures ∙ rw (field-is (read .before .before .before)) (sym (judged-broken _ _ (path-not-whole _ _ broken)))
 
 pub path-spec : {M : Type 1} → statement M
 path-spec =
@@ -103,11 +138,13 @@ path-spec =
     u32-at-requires
     cast-start
     from-requires
-    scan-requires
-    enum-known-length
+    read-path-requires
+    enum-known-text
     shared-slice-read-if1
     bad-path-requires
-    bad-path-requires-2
     returns
+    bad-path-requires-2
     returns-2
-    returns-3)
+    bad-path-requires-3
+    returns-3
+    returns-4)

@@ -1,6 +1,6 @@
 -- `text::read_name` meets its contract. The bytes of the string are passed one by one (`Passed`), so at each `return` its length is known, and the
--- hash so far is that of the bytes passed. Rests on `passed-stops`, `passed-ends`, `passed-next` and `passed-below`, `judgement` for the answer,
--- `string-read`, `string-filled`, `hash-none` and `hash-one-more` for the hash, and on what `times31` and `signed` ensure.
+-- hash so far is that of the bytes passed. Rests on `passed-stops`, `passed-ends`, `passed-next` and `passed-below`, on `text-ended`, `text-long` and
+-- `text-cut` for the answer, `string-read`, `string-filled`, `hash-none` and `hash-one-more` for the hash, and on what `times31` and `signed` ensure.
 use Prim.Native.Nat.{ℕ, _+_, _-_, _*_, _%_, _^_, _≤_, _<_}
 use mathlib.Core.Path.{_≡_, sym, ap, _∙_}
 use mathlib.Core.List.{List}
@@ -9,7 +9,7 @@ use native.Mathlib.Omega.{arith}
 use borrow.Author.Needs.{needs}
 use lib.ListN.{length, take, getD}
 use Rattle.format.specs.Text.{string, signed, hash}
-use Rattle.format.specs.Laws.Strings.{Passed, passed-stops, passed-ends, passed-next, passed-below, string-read, string-filled, judgement, long, cut, empty, whole}
+use Rattle.format.specs.Laws.Strings.{Passed, passed-stops, passed-ends, passed-next, passed-below, string-read, string-filled, text-ended, text-long, text-cut}
 use Rattle.format.specs.Laws.Hashes.{hash-none, hash-one-more}
 use Rattle.text.proofs.read_name.Statement.{statement}
 use Rattle.text.proofs.read_name.Tie as tie
@@ -39,28 +39,25 @@ loop-holds c = (omega arith, omega arith, omega arith, sym hash-none)
 shared-slice-read-byte : tie.Need-shared-slice-read-byte Inv-loop μ-loop
 shared-slice-read-byte c = search needs
 
+ended-requires : tie.Need-ended-requires Inv-loop μ-loop
+ended-requires c κs = search needs
+
 returns : tie.Need-returns Inv-loop μ-loop
 returns c =
     let l = c .before .before .before .before in
     let t = l .before .before .args .part .now in
-    let e = passed-stops t (l .loop .i) (l .loop .inv .2) (c .before .if1 .taken) in
-    (judgement _ _ (empty (omega arith) (omega arith)), hash-of-all t (l .loop .i) (omega arith) (omega arith) (l .loop .inv .3))
+    let stop = c .before .if1 .taken in (
+      c .ended .ensures ∙ text-ended 255 t (l .loop .i) (l .loop .inv .2) (omega arith) (omega arith) stop,
+      hash-of-all t (l .loop .i) (omega arith) (passed-stops t (l .loop .i) (l .loop .inv .2) stop) (l .loop .inv .3),
+    )
 
 returns-2 : tie.Need-returns-2 Inv-loop μ-loop
 returns-2 c =
     let l = c .before .before .before .before in
     let t = l .before .before .args .part .now in
-    let e = passed-stops t (l .loop .i) (l .loop .inv .2) (c .before .if1 .taken) in (
-      judgement _ _ (whole (omega arith) (record { some = omega arith; within = omega arith; ended = omega arith })),
-      hash-of-all t (l .loop .i) (omega arith) (omega arith) (l .loop .inv .3),
-    )
-
-returns-3 : tie.Need-returns-3 Inv-loop μ-loop
-returns-3 c =
-    let l = c .before .before .before .before in
-    let t = l .before .before .args .part .now in
-    let e = passed-below t (l .loop .i) (l .loop .inv .2) (c .before .if1 .left) in
-    (judgement _ _ (long (omega arith)), hash-of-front t (c .if3 .taken) (omega arith) (l .loop .inv .3))
+    let nz = c .before .if1 .left in
+    let e = passed-below t (l .loop .i) (l .loop .inv .2) nz in
+    (text-long 255 t (l .loop .i) (l .loop .inv .2) (c .if2 .taken) nz, hash-of-front t (c .if2 .taken) (omega arith) (l .loop .inv .3))
 
 times31-requires : tie.Need-times31-requires Inv-loop μ-loop
 times31-requires c κs = search needs
@@ -90,12 +87,14 @@ loop-again c =
       one-byte t (l .loop .i) (omega arith) small (l .loop .inv .3) (multiple .times31 .ensures) (c .before .signed .ensures) (c .wrapping-add-u32 .ensures),
     )
 
-returns-4 : tie.Need-returns-4 Inv-loop μ-loop
-returns-4 c =
+returns-3 : tie.Need-returns-3 Inv-loop μ-loop
+returns-3 c =
     let l = c .before in
     let t = l .before .before .args .part .now in
-    let e = passed-ends t (l .loop .i) (l .loop .inv .2) (c .loop-test .left) in
-    (judgement _ _ (cut (omega arith) (omega arith)), hash-of-all t (l .loop .i) (omega arith) (omega arith) (l .loop .inv .3))
+    let end = c .loop-test .left in (
+      text-cut 255 t (l .loop .i) (l .loop .inv .2) (omega arith) end,
+      hash-of-all t (l .loop .i) (omega arith) (passed-ends t (l .loop .i) (l .loop .inv .2) end) (l .loop .inv .3),
+    )
 
 pub read-name-spec : {M : Type 1} → statement M
 read-name-spec =
@@ -105,13 +104,13 @@ read-name-spec =
     μ-loop
     loop-holds
     shared-slice-read-byte
+    ended-requires
     returns
     returns-2
-    returns-3
     times31-requires
     signed-requires
     wrapping-add-u32-requires
     add-i
     loop-less
     loop-again
-    returns-4)
+    returns-3)
