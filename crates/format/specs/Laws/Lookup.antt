@@ -1,14 +1,14 @@
 -- What a lookup answers, from what the chain of the name's bucket is like.
-use Prim.Native.Nat.{ℕ, suc, _+_, _-_, _*_, _≤_, _<_}
+use Prim.Native.Nat.{ℕ, zero, suc, _+_, _-_, _*_, _≤_, _<_}
 use mathlib.Core.Path.{_≡_, refl, sym, ap, _∙_}
-use mathlib.Core.Logic.{_↔_}
+use mathlib.Core.Logic.{_↔_, _⊎_, inl, inr}
 use mathlib.Core.List.{List}
 use mathlib.Core.Bool.{Bool, true, false, not}
 use native.Mathlib.Nat.{zero-add, sub-zero}
 use native.Mathlib.Omega.{arith}
 use borrow.Author.Tests.{le-leb, lt-leb}
 use lib.ListN.{length}
-use lib.Dec.{leb}
+use lib.Dec.{leb, lit≤}
 use Rattle.format.specs.Choice.{if_then_else_}
 use Rattle.format.specs.Fault.{fault}
 use Rattle.format.specs.Text.{allowed}
@@ -20,8 +20,8 @@ use Rattle.format.specs.Words.{link, KeepsAt, KeepsBelow, NoneBelow, Hol
 use Rattle.format.specs.declared.Fault.{Fault}
 use Rattle.format.specs.declared.Ending.{Ending}
 use Rattle.format.specs.declared.LookupAnswer.{LookupAnswer}
-use Rattle.format.specs.Laws.Faults.{kept-takes, broken-takes, orElse-none, broken-speaks, kept-passes}
-use Rattle.format.specs.Laws.Header.{header-right}
+use Rattle.format.specs.Laws.Faults.{kept-takes, broken-takes, orElse-none, orElse-most, given-most, broken-speaks, kept-passes}
+use Rattle.format.specs.Laws.Header.{header-right, header-number}
 use Rattle.format.specs.Laws.Links.{Repeat, earlier, once, goes-on, never-breaks, broken-number, keeps-le, before-end, unbroken}
 use Rattle.format.specs.Laws.Apart.{apart-none, apart-few, repeats}
 use Rattle.format.specs.Laws.Along.{walk-ends, walk-meets, walk-breaks, walk-lasts}
@@ -56,6 +56,10 @@ module _ (s name : List ℕ) where
   pub query-right : allowed name ≡ true → headerFault s .number ≡ 0 → queryFault s name .number ≡ 0
   query-right a e = rw (query-allowed (ap not a)) e
 
+  query-number : queryFault s name .number ≤ 13
+  unfolding queryFault
+  query-number = orElse-most 13 _ _ (given-most 13 (not (allowed name)) 13 0 (lit≤ tt)) (omega (arith, header-number s))
+
   -- a name that is looked for stands in a buffer with a header
   query-long : queryFault s name .number ≡ 0 → 12 ≤ length s
   unfolding queryFault
@@ -75,6 +79,10 @@ module _ (s : List ℕ) (room r o : ℕ) where
 pub record InChain (s name : List ℕ) (k n : ℕ) (a : LookupAnswer) : Type 0 where
   pub opens : a .opened ≤ n
   pub absent : (a .number ≡ 30) ↔ NoneBelow s name k n
+
+-- a lookup's number is at most 14, or 30; so it never answers 16
+abbrev pub OfLookup : ℕ → Type 0
+OfLookup n = (n ≤ 14) ⊎ (n ≡ 30)
 
 module _ (s name : List ℕ) (room : ℕ) (asks : queryFault s name .number ≡ 0) (long : 12 ≤ length s) where
   abbrev bucket : ℕ
@@ -130,6 +138,14 @@ module _ (s name : List ℕ) (room : ℕ) (asks : queryFault s name .number ≡ 
       let c = repeats long (apart-none s bucket) keeps in
       (turns (goes-on c keeps), λ n same. let (i, l, q) = earlier c n in none i (omega (arith, c .below)) (sym (ap (nameOf s) q) ∙ same))
 
+  walk-number : Course s name bucket (length s - 10 - 0) → OfLookup (lookup s name room .number)
+  unfolding lookupEnds
+  walk-number (ends {n = n} l h none) = rw (absent n h none) (inr refl)
+  walk-number (meets {n = n} l keeps none here same) =
+      rw (found n keeps none here same) (met (λ (a : LookupAnswer). OfLookup (a .number)) _ _ (inl (lit≤ tt)) (inl (lit≤ tt)))
+  walk-number (breaks {n = n} {x = x} {p = p} l b none) = rw (refuses-record n x p b none) (inl (omega (arith, broken-number b)))
+  walk-number (lasts keeps none) = rw (ending (walk-lasts s name bucket 0 (length s - 10 - 0) keeps none)) (inl (lit≤ tt))
+
   walk-answers : WalkAnswers s name room bucket
   walk-answers = record {
     absent = absent;
@@ -157,3 +173,10 @@ lookup-answers s name room = record {
   refuses-query = λ x p e. lookup-refuses s name room e (λ z. omega arith);
   walks = λ asks. walk-answers s name room asks (query-long s name asks);
 }
+
+pub lookup-number : (s name : List ℕ) (room : ℕ) → OfLookup (lookup s name room .number)
+lookup-number s name room = go (queryFault s name .number) refl
+  where
+    go : (n : ℕ) → queryFault s name .number ≡ n → OfLookup (lookup s name room .number)
+    go zero e = walk-number s name room e (query-long s name e) (course s name (bucketOf s name) (length s - 10 - 0))
+    go (suc n) e = rw (lookup-refuses s name room refl (λ z. omega arith)) (inl (omega (arith, query-number s name)))

@@ -1,18 +1,23 @@
 -- What lies ahead of a position: one of three ways, and one is always at hand. Each gives the step's answer.
 use Prim.Native.Nat.{ℕ, zero, suc, _-_, _≤_, _<_}
 use mathlib.Core.Path.{_≡_, refl, _∙_}
+use mathlib.Core.Logic.{_⊎_, inl, inr}
 use mathlib.Core.List.{List, []}
+use mathlib.Core.Bool.{not}
 use native.Mathlib.Omega.{arith}
+use lib.Dec.{lit≤}
 use Rattle.format.specs.Header.{buckets}
 use Rattle.format.specs.Words.{link, linkField, Holds, Breaks}
-use Rattle.format.specs.Laws.Links.{keeps-named}
+use Rattle.format.specs.Laws.Faults.{given-all, orElse-all}
+use Rattle.format.specs.Laws.Header.{header-number}
+use Rattle.format.specs.Laws.Links.{keeps-named, broken-number}
 use Rattle.format.specs.Laws.Walk.{same-ending}
 use Rattle.format.specs.Laws.Along.{walk-ends, walk-breaks, walk-lasts}
 use Rattle.format.specs.Laws.Buckets.{none-empty}
 use Rattle.format.specs.Laws.Course.{Course, ends, meets, breaks, lasts, course}
-use Rattle.listing.specs.Listing.{position, stepIs, positionFault, onward, step}
+use Rattle.listing.specs.Listing.{position, stepIs, positionRight, positionFault, onward, step}
 use Rattle.listing.specs.Paging.{GoesOn, here, on, HasRecord, StepAnswers}
-use Rattle.listing.specs.Laws.Steps.{onward-ended, onward-broken, onward-stopped, step-refuses, step-goes}
+use Rattle.listing.specs.Laws.Steps.{onward-ended, onward-broken, onward-stopped, position-tells, step-refuses, step-goes}
 use Rattle.listing.specs.declared.Position.{Position}
 
 pub data Ahead (s : List ℕ) (q : Position) : Type 0 where
@@ -87,3 +92,24 @@ ahead-of s (suc m) q e l =
 
 pub ahead : (s : List ℕ) (q : Position) → q .bucket ≤ buckets s → Ahead s q
 ahead s q l = ahead-of s (buckets s - q .bucket) q refl l
+
+-- a step's number is at most 11, or 26 or 28; so it never answers 16
+abbrev pub OfStep : ℕ → Type 0
+OfStep n = (n ≤ 11) ⊎ ((n ≡ 26) ⊎ (n ≡ 28))
+
+position-number : (s : List ℕ) (q : Position) → OfStep (positionFault s q .number)
+unfolding positionFault
+position-number s q =
+    orElse-all OfStep _ _ (inl (omega (arith, header-number s))) (given-all OfStep (not (positionRight s q)) 26 0 (inl (lit≤ tt)) (inr (inl refl)))
+
+pub steps-number : (s : List ℕ) (q : Position) → OfStep (step s q .number)
+steps-number s q = go (positionFault s q .number) refl
+  where
+    onward-number : positionFault s q .number ≡ 0 → Ahead s q → OfStep (step s q .number)
+    onward-number right (record-ahead g h) = rw (gives right g h) (inl (lit≤ tt))
+    onward-number right (break-ahead {n = n} g l c b) = rw (refuses-record right g {n = n} l c b) (inl (omega (arith, broken-number b)))
+    onward-number right (nothing-ahead g e) = rw (done right g e) (inr (inr refl))
+
+    go : (n : ℕ) → positionFault s q .number ≡ n → OfStep (step s q .number)
+    go zero e = onward-number e (ahead s q (omega (arith, position-tells s q e)))
+    go (suc n) e = rw (step-refuses s q refl (λ z. omega arith)) (position-number s q)
