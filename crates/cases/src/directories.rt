@@ -28,7 +28,7 @@ fn broken() {
 }
 
 // One directory and an empty bucket: the path's field at 24 and the path at 28.
-fn one_directory(cache: &mut [u8], path: &[u8]) {
+pub fn one_directory(cache: &mut [u8], path: &[u8]) {
     build::start(cache, build::NONE);
     build::put_u32(cache, 20, 1);
     build::put_u32(cache, 24, 28);

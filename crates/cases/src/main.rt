@@ -10,6 +10,7 @@ mod images;
 mod names;
 mod places;
 mod queries;
+mod segments;
 mod steps;
 mod walks;
 
@@ -17,6 +18,7 @@ fn main() {
     hashes::run();
     header::run();
     directories::run();
+    segments::run();
     names::run();
     images::run();
     places::run();

@@ -1,0 +1,2 @@
+# refused 16 at 100 opened 0
+sh tests/patched.sh 108 '..'
