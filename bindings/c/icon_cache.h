@@ -19,6 +19,7 @@
  *   13  the name asked for is empty, over 255 bytes or holds a zero byte      place: 0
  *   14  too little room for the images              place: the image list
  *   15  no directory has that index                 place: 0
+ *   16  a piece of a path, cut at each "/", is empty, "." or ".."   place: the path's field in the directory list
  *   26  the position names no bucket, or its count is more than the length less 11        place: 0
  *   28  no further record                           place: 0
  *   30  no record bears the name                    place: 0
@@ -71,7 +72,9 @@ uint32_t icon_cache_directory(const uint8_t *cache, size_t cache_len, size_t ind
 
 /*
  * The path of directory `index`: the *length bytes of the cache from *start on, without the zero byte after them. With any number but 0
- * both are 0.
+ * both are 0. A path that is given does not begin with "/", and none of its pieces is empty, "." or "..": so, as its text goes, it leads
+ * nowhere but below the folder that it is taken from. Only "/" counts as a separator: where "\" is one too, it is the caller's to judge, and
+ * so are symbolic links.
  */
 uint32_t icon_cache_directory_path(const uint8_t *cache, size_t cache_len, size_t index,
                                    size_t *start, size_t *length);

@@ -198,7 +198,10 @@ fn image(words: &[u32]) -> Image {
 }
 
 /// Gives the path of one directory, a part of the cache. The path may hold any
-/// bytes but zero and doesn't begin with a slash.
+/// bytes but zero. It doesn't begin with a slash, and none of its pieces, cut at
+/// the slashes, is empty, "." or "..": so, as its text goes, it leads nowhere but
+/// below the folder that it is taken from. Only "/" counts as a separator: where
+/// "\\" is one too, it is the caller's to judge, and so are symbolic links.
 ///
 /// ```
 /// use icon_cache::{directory, Refusal, FARM_CACHE};

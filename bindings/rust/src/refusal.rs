@@ -18,7 +18,7 @@ use std::fmt;
 /// ```
 #[derive(Clone, Copy, Debug, PartialEq, Eq)]
 pub struct Refusal {
-    /// The answer number, 1 to 15, 26 or 30.
+    /// The answer number, 1 to 16, 26 or 30.
     pub number: u32,
     /// The offset of the fault in the cache, 0 where it has none.
     pub place: usize,
@@ -32,8 +32,8 @@ pub struct Refusal {
 impl Refusal {
     /// The cache is longer than [`LARGEST`](crate::LARGEST).
     pub const TOO_LARGE: u32 = 2;
-    /// The path of a directory is not allowed. Other directories may still be
-    /// asked for.
+    /// The path of a directory is unended, empty, too long or begins with a
+    /// slash. Other directories may still be asked for.
     pub const BAD_PATH: u32 = 6;
     /// A chain never ends.
     pub const ENDLESS_CHAIN: u32 = 12;
@@ -41,6 +41,9 @@ impl Refusal {
     pub const NO_ROOM: u32 = 14;
     /// No directory has the index asked for.
     pub const NO_SUCH_DIRECTORY: u32 = 15;
+    /// The path of a directory has, between its slashes, an empty piece, "." or
+    /// "..". Other directories may still be asked for.
+    pub const BAD_SEGMENT: u32 = 16;
     /// The position names no bucket, or its count is more than the cache's
     /// length less 11.
     pub const BAD_POSITION: u32 = 26;
@@ -66,6 +69,7 @@ impl fmt::Display for Refusal {
             13 => "the name asked for is empty, too long or holds a zero byte",
             14 => "there is too little room for the images",
             15 => "there is no directory of this index",
+            16 => "a piece of this directory path, cut at its slashes, is empty, \".\" or \"..\"",
             26 => "the position asked for names no bucket, or its count is too large",
             30 => "there is no icon of this name",
             _ => "the answer number is unknown",
@@ -97,6 +101,7 @@ mod tests {
             (Refusal::ENDLESS_CHAIN, "never ends"),
             (Refusal::NO_ROOM, "too little room"),
             (Refusal::NO_SUCH_DIRECTORY, "no directory"),
+            (Refusal::BAD_SEGMENT, "a piece of this directory path"),
             (Refusal::BAD_POSITION, "the position"),
             (Refusal::ABSENT, "no icon"),
         ] {
@@ -106,8 +111,8 @@ mod tests {
 
     #[test]
     fn each_number_has_its_own_sentence() {
-        let known: HashSet<_> = (1..=15).chain([26, 30]).map(sentence).collect();
-        assert_eq!(known.len(), 17);
+        let known: HashSet<_> = (1..=16).chain([26, 30]).map(sentence).collect();
+        assert_eq!(known.len(), 18);
         assert!(!known.contains(&sentence(0)));
     }
 }

@@ -148,10 +148,10 @@ impl Counts {
     /// The counts of each call, and the numbers it can answer.
     fn calls(&self) -> [(&str, &[u64; 31], Vec<usize>); 5] {
         let lookup = [0, 1, 2, 3, 4, 5, 7, 8, 9, 10, 11, 12, 13, 14, 30];
-        let directory = [0, 1, 2, 3, 4, 5, 6, 15];
+        let directory = [0, 1, 2, 3, 4, 5, 6, 15, 16];
         let list = [0, 1, 2, 3, 4, 5, 7, 8, 9, 10, 11, 26, 28];
         [
-            ("check", &self.check, (0..=12).collect()),
+            ("check", &self.check, (0..=12).chain([16]).collect()),
             ("lookup", &self.lookup, lookup.into()),
             ("directory", &self.directory, directory.into()),
             ("path", &self.path, directory.into()),
@@ -170,7 +170,7 @@ impl Counts {
         println!("{} made sound, {caches} damaged on purpose", self.sound);
         println!("with up to {directories} directories and {buckets} buckets");
         println!("answer       check      lookup   directory        path        list");
-        for number in (0..=15).chain([26, 28, 30]) {
+        for number in (0..=16).chain([26, 28, 30]) {
             let counts = self.calls().map(|(_, counts, _)| counts[number]);
             let columns = counts.map(|count| format!("{count:>12}"));
             println!("{number:>6}{}", columns.concat());

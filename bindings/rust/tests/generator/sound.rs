@@ -170,15 +170,12 @@ impl<'a> Maker<'a> {
 
     fn path(&mut self) -> usize {
         if let Some((offset, path)) = self.shared_string() {
-            if path[0] != b'/' {
+            if reader::pieces_allowed(&path) {
                 return offset;
             }
         }
         let length = self.length(1_023);
-        let mut path = self.random.text(length);
-        if path[0] == b'/' {
-            path[0] = b'.';
-        }
+        let path = self.random.path(length);
         self.string(path)
     }
 

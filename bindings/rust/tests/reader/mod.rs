@@ -165,14 +165,22 @@ fn tables(cache: &[u8]) -> Result<Tables, Fault> {
     })
 }
 
-/// Refusal 6, or the place and the length of the path.
+/// Refusals 6 and 16, or the place and the length of the path.
 fn path(cache: &[u8], tables: &Tables, index: usize) -> Result<(usize, usize), Fault> {
     let field = tables.path_field(index);
     let start = number(cache, field, 4);
     match string(cache, start, 1_023) {
-        Some(path) if path[0] != b'/' => Ok((start, path.len())),
-        _ => Err(fault(6, field)),
+        Some(path) if path[0] == b'/' => Err(fault(6, field)),
+        Some(path) if !pieces_allowed(path) => Err(fault(16, field)),
+        Some(path) => Ok((start, path.len())),
+        None => Err(fault(6, field)),
     }
+}
+
+/// No piece of a path, cut at the slashes, is empty, "." or "..".
+pub fn pieces_allowed(path: &[u8]) -> bool {
+    let mut pieces = path.split(|&byte| byte == b'/');
+    !pieces.any(|piece| matches!(piece, b"" | b"." | b".."))
 }
 
 /// A chain up to its end: the records that lie inside, each met once.

@@ -136,7 +136,9 @@ fn list_directories(output: &mut Output, shown: &str, cache: &[u8]) -> Status {
         match icon_cache::directory(cache, index) {
             Ok(path) => output.line(&format!("{index}: {}", show::bytes(path))),
             Err(refusal) => match refusal.number {
-                Refusal::BAD_PATH => status = say_refused(output, &index.to_string(), &refusal),
+                Refusal::BAD_PATH | Refusal::BAD_SEGMENT => {
+                    status = say_refused(output, &index.to_string(), &refusal);
+                }
                 Refusal::NO_SUCH_DIRECTORY => break,
                 _ => return say_refused(output, shown, &refusal),
             },
