@@ -1,5 +1,5 @@
-// Strings that end in a zero byte: what one is, a name with its hash, whether a name is the one asked for, and whether it may be asked for.
-// A string is handed over as the part of the buffer from its offset on.
+// Strings that end in a zero byte: what one is, as a name with its hash or as a path with its segments; whether a name is the one asked for, and
+// whether it may be asked for. A string is handed over as the part of the buffer from its offset on.
 ghost use mathlib.Core.Path.{_≡_};
 ghost use mathlib.Core.Bool.{_&&_};
 ghost use mathlib.Core.List.{List, [], _∷_};

@@ -10,7 +10,7 @@ use lib.ListN.{length}
 use lib.Dec.{lit≤}
 use Rattle.format.specs.Fault.{given, _orElse_}
 use Rattle.format.specs.Segments.{segmentsRight}
-use Rattle.format.specs.Header.{directories, headerFault, pathOf, pathRight, pathFault, pathsFault, tablesFault}
+use Rattle.format.specs.Header.{directories, headerFault, pathField, pathOf, pathRight, pathFault, pathsFault, tablesFault}
 use Rattle.format.specs.Record.{namePart, nameOf, bucketOf, imagesAt, images, nameFault, listFault, recordFault, imagesFault, nameRight, bucketRight, listRight, imageRight}
 use Rattle.format.specs.declared.Fault.{Fault}
 use Rattle.format.specs.Laws.Faults.{given-none, given-all, orElse-first, orElse-next, orElse-none, orElse-all}
@@ -25,23 +25,25 @@ pub record RecordRight (s : List ℕ) (k r : ℕ) : Type 0 where
   pub home : bucketOf s (nameOf s r) ≡ k
   pub listed : imagesAt s r + 4 + 8 * images s r ≤ length s
 
--- the numbers of rules 1 to 6 and 16, and those of rules 8 to 11
-abbrev pub OfTables : ℕ → Type 0
-OfTables n = (n ≤ 6) ⊎ (n ≡ 16)
-
+-- the numbers of rules 8 to 11
 abbrev pub OfRecord : ℕ → Type 0
 OfRecord n = (n ≡ 0) ⊎ ((8 ≤ n) × (n ≤ 11))
 
--- a rule with one of these numbers, and what is judged after it
-rule : (P : ℕ → Type 0) (b : Bool) (n p : ℕ) (y : Fault) → P 0 → P n → P (y .number) → P ((given b n p orElse y) .number)
-rule P b n p y z h g = orElse-all P (given b n p) y (given-all P b n p z h) g
+-- one of them, and what is judged after it
+rule : (b : Bool) (n p : ℕ) (y : Fault) → OfRecord n → OfRecord (y .number) → OfRecord ((given b n p orElse y) .number)
+rule b n p y h g = orElse-all OfRecord (given b n p) y (given-all OfRecord b n p (inl refl) h) g
+
+-- the numbers of rules 1 to 6 and 16
+abbrev pub OfTables : ℕ → Type 0
+OfTables n = (n ≤ 6) ⊎ (n ≡ 16)
 
 module _ (s : List ℕ) where
   path-number : (i : ℕ) → OfTables (pathFault s i .number)
   unfolding pathFault
   path-number i =
-      rule OfTables (not (pathRight s i)) _ _ _ (inl (lit≤ tt)) (inl (lit≤ tt))
-      (given-all OfTables (not (segmentsRight (pathOf s i))) _ _ (inl (lit≤ tt)) (inr refl))
+      orElse-all OfTables _ _
+      (given-all OfTables (not (pathRight s i)) _ (pathField s i) (inl (lit≤ tt)) (inl (lit≤ tt)))
+      (given-all OfTables (not (segmentsRight (pathOf s i))) _ (pathField s i) (inl (lit≤ tt)) (inr refl))
 
   paths-number : (n i : ℕ) → OfTables (pathsFault n s i .number)
   unfolding pathsFault
@@ -67,15 +69,15 @@ module _ (s : List ℕ) where
   images-number : (m at : ℕ) → OfRecord (imagesFault m s at .number)
   unfolding imagesFault
   images-number zero at = inl refl
-  images-number (suc m) at = rule OfRecord (not (imageRight s at)) _ _ _ (inl refl) (inr (lit≤ tt, lit≤ tt)) (images-number m (at + 8))
+  images-number (suc m) at = rule (not (imageRight s at)) _ _ _ (inr (lit≤ tt, lit≤ tt)) (images-number m (at + 8))
 
   module _ (k r : ℕ) where
     pub record-number : OfRecord (recordFault s k r .number)
     unfolding recordFault nameFault listFault
     record-number =
         orElse-all OfRecord _ _
-        (rule OfRecord (not (nameRight s r)) _ _ _ (inl refl) (inr (lit≤ tt, lit≤ tt)) (given-all OfRecord (not (bucketRight s k r)) _ _ (inl refl) (inr (lit≤ tt, lit≤ tt))))
-        (rule OfRecord (not (listRight s (imagesAt s r))) _ _ _ (inl refl) (inr (lit≤ tt, lit≤ tt)) (images-number _ _))
+        (rule (not (nameRight s r)) _ _ _ (inr (lit≤ tt, lit≤ tt)) (given-all OfRecord (not (bucketRight s k r)) _ _ (inl refl) (inr (lit≤ tt, lit≤ tt))))
+        (rule (not (listRight s (imagesAt s r))) _ _ _ (inr (lit≤ tt, lit≤ tt)) (images-number _ _))
 
     pub record-right : recordFault s k r .number ≡ 0 → RecordRight s k r
     unfolding recordFault nameFault listFault
