@@ -41,8 +41,8 @@ impl Refusal {
     pub const NO_ROOM: u32 = 14;
     /// No directory has the index asked for.
     pub const NO_SUCH_DIRECTORY: u32 = 15;
-    /// The path of a directory has, between its slashes, an empty piece, "." or
-    /// "..". Other directories may still be asked for.
+    /// A piece of a directory's path, cut at its slashes, is empty, "." or "..".
+    /// Other directories may still be asked for.
     pub const BAD_SEGMENT: u32 = 16;
     /// The position names no bucket, or its count is more than the cache's
     /// length less 11.
@@ -97,7 +97,7 @@ mod tests {
     fn the_named_numbers_have_their_sentence() {
         for (number, words) in [
             (Refusal::TOO_LARGE, "longer than"),
-            (Refusal::BAD_PATH, "this directory path"),
+            (Refusal::BAD_PATH, "this directory path is unended"),
             (Refusal::ENDLESS_CHAIN, "never ends"),
             (Refusal::NO_ROOM, "too little room"),
             (Refusal::NO_SUCH_DIRECTORY, "no directory"),

@@ -313,7 +313,8 @@ impl<'a> Comparison<'a> {
             steps.note(Met::RecordAgain, behind && bucket == from.bucket);
         }
         if step.number == 28 {
-            steps.note(Met::PathAtFault, matches!(cache.check.number, 6 | 16));
+            steps.note(Met::PathAtFault, cache.check.number == 6);
+            steps.note(Met::SegmentAtFault, cache.check.number == 16);
             steps.note(Met::FaultBefore, (7..=12).contains(&cache.check.number));
         }
         Ok(step)

@@ -27,7 +27,11 @@ fn right() {
     path(b".x");
     path(b".x/a");
     path(b"a/.x/b");
+    path(b"a/.x");
     path(b"x/.y");
+    path(b"x/.y/a");
+    path(b"a/x/.y/b");
+    path(b"a/x/.y");
 }
 
 fn dots() {
@@ -50,6 +54,7 @@ fn slashes() {
     path(b"a//");
     path(b"");
     path(b"/");
+    path(b"//");
     path(b"/a");
     path(b"/..");
     path(b"..\\..");

@@ -1,8 +1,6 @@
--- The farm cache of document 01, its examples P1 to P12 as one list, and the paths of request 4 as another.
+-- The farm cache of document 01, its examples P1 to P12 as one list, and some paths of request 4 as another.
 use Prim.Native.Nat.{ℕ, _+_}
-use Prim.Native.Char.{code}
-use Prim.Native.String.{String, [] as []ᵗ, _∷_ as _∷ᵗ_, _++_ as _++ᵗ_}
-use mathlib.Core.List.{List, [], _∷_, _++_, map, flatMap}
+use mathlib.Core.List.{List, [], _∷_, _++_}
 use mathlib.Core.Bool.{Bool, true, _&&_}
 use lib.ListN.{length, take, drop, replicate}
 use lib.Dec.{T, eqb}
@@ -104,44 +102,20 @@ examples =
     names farm 2 (directoryIs 15 0) [] ∷
     []
 
--- the bytes of an ASCII text
-unfoldable pub bytes : String → List ℕ
-bytes []ᵗ = []
-bytes (c ∷ᵗ t) = code c ∷ bytes t
-
--- the farm cache with this path, at its end, for directory 0
-unfoldable pub withPath : String → List ℕ
-withPath path = patched 100 (0 ∷ 0 ∷ 0 ∷ 126 ∷ []) farm ++ bytes path ++ (0 ∷ [])
-
--- a path that is handed back, and one that is refused
-unfoldable pub good : String → Example
-good path = names (withPath path) 0 (directoryIs 0 0) (bytes path)
-
-unfoldable pub refused : ℕ → String → Example
-refused number path = names (withPath path) 0 (directoryIs number 100) []
-
--- a segment alone, first, in the middle and last
-unfoldable pub everywhere : String → List String
-everywhere p = p ∷ (p ++ᵗ "/a") ∷ ("a/" ++ᵗ p ++ᵗ "/b") ∷ ("a/" ++ᵗ p) ∷ []
-
+-- Request 4, in the two paths of the farm cache, at 108 and 111: ".." and "6/" are refused with 16 and ".x" is good; a leading slash stays 6. 16 comes
+-- straight after 6 of the same path and before the next path. Only its own directory is refused, and a lookup looks at no path.
 unfoldable pub pathExamples : List Example
 pathExamples =
-    map good (flatMap everywhere ("..." ∷ "a.." ∷ ".x" ∷ "x/.y" ∷ [])) ++
-    map (refused 16) (flatMap everywhere ("." ∷ ".." ∷ [])) ++
-    map (refused 16) ("a/" ∷ "a//" ∷ "a//b" ∷ "../../photos" ∷ []) ++
-    -- a leading slash stays 6
-    map (refused 6) ("" ∷ "/" ∷ "//" ∷ "/a" ∷ "/.." ∷ []) ++
-    -- straight after 6 of the same path, and before the next path
-    checks (withPath "..") (checked 16 100 0 0 0) ∷
-    checks (patched 111 (bytes "/4") (withPath "..")) (checked 16 100 0 0 0) ∷
-    checks (patched 111 (bytes "..") (withPath "/a")) (checked 6 100 0 0 0) ∷
-    checks (patched 111 (bytes "..") farm) (checked 16 104 0 0 0) ∷
-    -- only its own directory is refused, and a lookup looks at no path
-    names (patched 111 (bytes "..") farm) 0 (directoryIs 0 0) (bytes "16") ∷
-    names (patched 111 (bytes "..") farm) 1 (directoryIs 16 104) [] ∷
-    looksUp (withPath "..") oat (lent 5) (lookedUp 0 40 1 2) (1 ∷ 0 ∷ 7 ∷ 7 ∷ 7 ∷ []) ∷
+    checks (patched 108 (46 ∷ 46 ∷ []) farm) (checked 16 100 0 0 0) ∷
+    checks (patched 111 (54 ∷ 47 ∷ []) farm) (checked 16 104 0 0 0) ∷
+    checks (patched 111 (46 ∷ 120 ∷ []) farm) (checked 0 0 2 3 3) ∷
+    checks (patched 108 (46 ∷ 46 ∷ 0 ∷ 47 ∷ 52 ∷ []) farm) (checked 16 100 0 0 0) ∷
+    checks (patched 108 (47 ∷ 46 ∷ 0 ∷ 46 ∷ 46 ∷ []) farm) (checked 6 100 0 0 0) ∷
+    names (patched 111 (46 ∷ 46 ∷ []) farm) 0 (directoryIs 0 0) (49 ∷ 54 ∷ []) ∷
+    names (patched 111 (46 ∷ 46 ∷ []) farm) 1 (directoryIs 16 104) [] ∷
+    looksUp (patched 108 (46 ∷ 46 ∷ []) farm) oat (lent 5) (lookedUp 0 40 1 2) (1 ∷ 0 ∷ 7 ∷ 7 ∷ 7 ∷ []) ∷
     []
 
 examples-hold : T (all examples && all pathExamples)
-unfolding all holds examples bytes withPath good refused everywhere flatMap pathExamples lent looped patched farm cow oat pig ewe sameCheck sameLookup sameDirectory check checkBuckets queryFault lookup lookupEnds metAnswer answerWords directoryFault directory directoryPath walk recordFault nameFault listFault imagesFault imageWords headerFault segments segmentRight allRight pathFault pathsFault tablesFault _orElse_ text string isWhole sameBytes signed hashFrom hashNumbers hash allowed be
+unfolding all holds examples pathExamples lent looped patched farm cow oat pig ewe sameCheck sameLookup sameDirectory check checkBuckets queryFault lookup lookupEnds metAnswer answerWords directoryFault directory directoryPath walk recordFault nameFault listFault imagesFault imageWords headerFault segments segmentRight allRight pathFault pathsFault tablesFault _orElse_ text string isWhole sameBytes signed hashFrom hashNumbers hash allowed be
 examples-hold = tt

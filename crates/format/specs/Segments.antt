@@ -27,7 +27,7 @@ segments (b ∷ t) = if eqb b slash then [] ∷ segments t else lengthened b (se
 unfoldable pub segmentRight : List ℕ → Bool
 segmentRight p = not (sameBytes p []) && not (sameBytes p (dot ∷ [])) && not (sameBytes p (dot ∷ dot ∷ []))
 
--- each of the segments is one
+-- all of them are such
 unfoldable pub allRight : List (List ℕ) → Bool
 allRight [] = true
 allRight (p ∷ ps) = segmentRight p && allRight ps

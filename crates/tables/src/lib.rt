@@ -184,7 +184,7 @@ pub fn path(cache: &[u8], t: Tables, i: usize) -> JudgedPath
     }
 }
 
-// The first path that breaks rule 6 or 16, and the rule, in a cache whose header breaks no rule.
+// The rule that the first wrong path breaks, 6 or 16, and its place, in a cache whose header breaks no rule.
 pub fn paths(cache: &[u8], t: Tables) -> Fault
     requires { ⌜ Right (now cache) t ⌝ }
     ensures { λ r. ⌜ r ≡ pathsFault (directories (now (cache .entry))) (now (cache .entry)) 0 ⌝ }

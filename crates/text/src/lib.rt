@@ -158,9 +158,10 @@ pub fn read_path(part: &[u8]) -> Path
     while i < part.len() {
         let byte = part[i];
         if byte == 0 {
+            let segments_right = segments.right_at_end();
             return Path {
                 text: ended(i),
-                segments_right: segments.right_at_end(),
+                segments_right,
             };
         }
         if i == 1023 {

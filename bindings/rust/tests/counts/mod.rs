@@ -50,14 +50,16 @@ pub enum Met {
     FaultBetween,
     /// A record at fault that another chain has handed back.
     SharedRecord,
-    /// The end, in a cache with a path at fault.
+    /// The end, in a cache with a path at fault by rule 6.
     PathAtFault,
+    /// The end, in a cache with a path at fault by rule 16.
+    SegmentAtFault,
     /// The end, in a cache with a lower bucket at fault.
     FaultBefore,
 }
 
 impl Met {
-    const ALL: [Met; 8] = [
+    const ALL: [Met; 9] = [
         Met::WholeWalk,
         Met::EmptyBuckets,
         Met::RecordAgain,
@@ -65,6 +67,7 @@ impl Met {
         Met::FaultBetween,
         Met::SharedRecord,
         Met::PathAtFault,
+        Met::SegmentAtFault,
         Met::FaultBefore,
     ];
 }

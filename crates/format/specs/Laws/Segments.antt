@@ -53,7 +53,7 @@ dots-longer : (n : ℕ) (t : List ℕ) {p : List ℕ} {ps : List (List ℕ)} →
 dots-longer zero t e = e
 dots-longer (suc n) t e = other-longer dot (replicate n dot ++ t) (λ h. omega arith) ∙ ap (lengthened dot) (dots-longer n t e)
 
--- a segment is right, however it goes on, after three dots, and after a byte that is a dot at most as the fourth
+-- a segment is right, however it goes on, after three dots, and after a byte that is no dot, or a dot after three
 many-right : (n : ℕ) (p : List ℕ) → 3 ≤ n → segmentRight (replicate n dot ++ p) ≡ true
 unfolding segmentRight sameBytes
 many-right zero p l = absurd (omega arith)
@@ -132,7 +132,7 @@ segments-free (b ∷ t) m n e = go (eqb b slash) refl (first t) (segments-free t
 pub segments-cut : (path : List ℕ) → CutAtSlashes path (segments path)
 segments-cut path = record { whole = segments-whole path; free = segments-free path }
 
--- and no other pieces are so
+-- and no other list of pieces is
 free-segment : (p : List ℕ) → NoSlash p → segments p ≡ p ∷ []
 unfolding segments
 free-segment [] h = refl

@@ -1,4 +1,4 @@
--- What lies ahead of a position: one of three ways, and one is always at hand. Each gives the step's answer.
+-- What lies ahead of a position: one of three ways, and one is always at hand. Each gives the step's answer, and so which numbers it can have.
 use Prim.Native.Nat.{ℕ, zero, suc, _-_, _≤_, _<_}
 use mathlib.Core.Path.{_≡_, refl, _∙_}
 use mathlib.Core.Logic.{_⊎_, inl, inr}
@@ -102,8 +102,8 @@ unfolding positionFault
 position-number s q =
     orElse-all OfStep _ _ (inl (omega (arith, header-number s))) (given-all OfStep (not (positionRight s q)) 26 0 (inl (lit≤ tt)) (inr (inl refl)))
 
-pub steps-number : (s : List ℕ) (q : Position) → OfStep (step s q .number)
-steps-number s q = go (positionFault s q .number) refl
+pub step-answer-number : (s : List ℕ) (q : Position) → OfStep (step s q .number)
+step-answer-number s q = go (positionFault s q .number) refl
   where
     onward-number : positionFault s q .number ≡ 0 → Ahead s q → OfStep (step s q .number)
     onward-number right (record-ahead g h) = rw (gives right g h) (inl (lit≤ tt))

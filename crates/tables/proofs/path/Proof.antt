@@ -126,9 +126,9 @@ returns-3 c =
 
 returns-4 : tie.Need-returns-4
 returns-4 c =
-    let read = c .before .before in
-    let broken = ap isWhole (sym (text-is read)) ∙ tag-not-whole _ (c .before .match .keys2) in
-    c .bad-path3 .ensures ∙ rw (field-is (read .before .before .before)) (sym (judged-broken _ _ (path-not-whole _ _ broken)))
+    let path-read = c .before .before in
+    let broken = ap isWhole (sym (text-is path-read)) ∙ tag-not-whole _ (c .before .match .keys2) in
+    c .bad-path3 .ensures ∙ rw (field-is (path-read .before .before .before)) (sym (judged-broken _ _ (path-not-whole _ _ broken)))
 
 pub path-spec : {M : Type 1} → statement M
 path-spec =

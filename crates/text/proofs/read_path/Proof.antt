@@ -54,11 +54,11 @@ loop-holds c = (omega arith, omega arith, omega arith, refl)
 shared-slice-read-byte : tie.Need-shared-slice-read-byte Inv-loop μ-loop
 shared-slice-read-byte c = search needs
 
-ended-requires : tie.Need-ended-requires Inv-loop μ-loop
-ended-requires c κs = search needs
-
 right-at-end-requires : tie.Need-right-at-end-requires Inv-loop μ-loop
 right-at-end-requires c κs = search needs
+
+ended-requires : tie.Need-ended-requires Inv-loop μ-loop
+ended-requires c κs = search needs
 
 returns : tie.Need-returns Inv-loop μ-loop
 returns c =
@@ -66,8 +66,8 @@ returns c =
     let t = l .before .before .args .part .now in
     let stop = c .before .before .if1 .taken in
     let none = none-left t (l .loop .i) (string-stops t (l .loop .i) stop) in (
-      c .before .ended .ensures ∙ text-ended 1023 t (l .loop .i) (l .loop .inv .2) (omega arith) (omega arith) stop,
-      at-end (l .loop .segments) t (l .loop .i) none (c .right-at-end .ensures) (l .loop .inv .3),
+      c .ended .ensures ∙ text-ended 1023 t (l .loop .i) (l .loop .inv .2) (omega arith) (omega arith) stop,
+      at-end (l .loop .segments) t (l .loop .i) none (c .before .right-at-end .ensures) (l .loop .inv .3),
     )
 
 right-at-end-requires-2 : tie.Need-right-at-end-requires-2 Inv-loop μ-loop
@@ -122,8 +122,8 @@ read-path-spec =
     μ-loop
     loop-holds
     shared-slice-read-byte
-    ended-requires
     right-at-end-requires
+    ended-requires
     returns
     right-at-end-requires-2
     returns-2
