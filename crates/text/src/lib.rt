@@ -2,12 +2,10 @@
 // whether it may be asked for. A string is handed over as the part of the buffer from its offset on.
 ghost use mathlib.Core.Path.{_≡_};
 ghost use mathlib.Core.Bool.{_&&_};
-ghost use mathlib.Core.List.{List, [], _∷_};
-ghost use Prim.Native.Nat.{ℕ, _*_, _%_, _^_, _≤_};
+ghost use Prim.Native.Nat.{_-_, _*_, _%_, _^_, _≤_};
 ghost use lib.ListN.{length, take, drop};
 ghost use Rattle.format.specs.Text.{string, ended, text, isWhole, sameBytes, signed, hash, allowed};
-ghost use Rattle.format.specs.Segments.{segmentsRight};
-ghost use Rattle.text.specs.Segments.{rightWith};
+ghost use Rattle.format.specs.Segments.{segmentRight, segmentsRight};
 use format::Text;
 use std::num::wrapping_add_u8;
 use std::num::wrapping_add_u32;
@@ -108,57 +106,43 @@ pub fn read_name(part: &[u8]) -> Name
     }
 }
 
-// The segments of a path as far as it is read: whether each that a slash ended is right, and how many dots the last one is. Three dots stand for any
-// beginning of a segment that is right however it goes on.
-struct Segments {
-    right: bool,
-    dots: usize,
-}
-
-impl Segments {
-    // Whether the segments are right if the path ends here.
-    fn right_at_end(self) -> bool
-        ensures { λ r. ⌜ r ≡ rightWith self [] ⌝ }
-    {
-        if self.dots < 3 { false } else { self.right }
-    }
-
-    // The segments after one byte more.
-    fn after(self, byte: u8) -> Segments
-        ensures { λ r. ⌜ ((t : List ℕ) → rightWith r t ≡ rightWith self (byte ∷ t)) ⌝ }
-    {
-        if byte == b'/' {
-            return Segments {
-                right: self.right_at_end(),
-                dots: 0,
-            };
-        }
-        let dots = if byte == b'.' && self.dots < 3 {
-            self.dots + 1
-        } else {
-            3
-        };
-        Segments {
-            right: self.right,
-            dots,
-        }
+// Whether `segment` is one that a path may have: not empty, "." or "..". Of one with three bytes or more no byte is read.
+fn segment_right(segment: &[u8]) -> bool
+    ensures { λ r. ⌜ r ≡ segmentRight (now (segment .entry)) ⌝ }
+{
+    match segment.len() {
+        0 => false,
+        1 => segment[0] != b'.',
+        2 => segment[0] != b'.' || segment[1] != b'.',
+        _ => true,
     }
 }
 
-// What the string at the front of `part` is as a path, and whether its segments are right. One loop serves both. No more than 1,024 bytes are read.
+// Whether the segments before are right, and the one from `start` to `end` too.
+fn right_to(part: &[u8], before: bool, start: usize, end: usize) -> bool
+    requires { ⌜ (start ≤ end) × (end ≤ length (now part)) ⌝ }
+    ensures { λ r. ⌜ r ≡ (before && segmentRight (take (end - start) (drop start (now (part .entry))))) ⌝ }
+{
+    if before {
+        segment_right(&part[start..end])
+    } else {
+        false
+    }
+}
+
+// What the string at the front of `part` is as a path, and whether its segments are right. One loop serves both: a segment is judged where it ends.
+// No more than 1,024 bytes are read.
 pub fn read_path(part: &[u8]) -> Path
     ensures text { λ r. ⌜ r .text ≡ text 1023 (now (part .entry)) ⌝ }
     ensures segments { λ r. ⌜ r .«segments_right» ≡ segmentsRight (take 1023 (string (now (part .entry)))) ⌝ }
 {
-    let mut segments = Segments {
-        right: true,
-        dots: 0,
-    };
+    let mut right = true;
+    let mut start = 0;
     let mut i = 0;
     while i < part.len() {
         let byte = part[i];
         if byte == 0 {
-            let segments_right = segments.right_at_end();
+            let segments_right = right_to(part, right, start, i);
             return Path {
                 text: ended(i),
                 segments_right,
@@ -167,15 +151,18 @@ pub fn read_path(part: &[u8]) -> Path
         if i == 1023 {
             return Path {
                 text: Text::Long,
-                segments_right: segments.right_at_end(),
+                segments_right: right_to(part, right, start, i),
             };
         }
-        segments = segments.after(byte);
+        if byte == b'/' {
+            right = right_to(part, right, start, i);
+            start = i + 1;
+        }
         i += 1;
     }
     Path {
         text: Text::Cut,
-        segments_right: segments.right_at_end(),
+        segments_right: right_to(part, right, start, i),
     }
 }
 

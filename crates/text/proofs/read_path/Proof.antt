@@ -1,24 +1,24 @@
--- `text::read_path` meets its contract. The bytes of the string are passed one by one (`Passed`), so at each `return` its length is known, and what is
--- judged of the segments read with the bytes left is what is judged of the whole path. Rests on `text-ended`, `text-long`, `text-cut` and
--- `passed-next` for the string, on `string-stops`, `string-ends` and `string-goes-on` for what is left of it, and on what the methods of `Segments`
--- ensure.
+-- `text::read_path` meets its contract. The bytes of the string are passed one by one (`Passed`), so at each `return` its length is known. What is left
+-- from the last segment's start on is that segment, as far as it is read, and the bytes not read yet; it and the segments before, judged together, are
+-- the whole path judged (`Reading`). A segment is judged where it ends: `last-right`, `first-right`.
 use Prim.Native.Nat.{ℕ, suc, _+_, _-_, _≤_, _<_}
 use mathlib.Core.Path.{_≡_, refl, sym, ap, _∙_}
-use mathlib.Core.List.{List, [], _∷_}
-use mathlib.Core.Bool.{Bool}
+use mathlib.Core.Logic.{⊎-elim}
+use mathlib.Core.List.{List, [], _∷_, _++_, append-nil, append-assoc}
+use mathlib.Core.Bool.{Bool, _&&_, and-assoc}
+use native.Mathlib.Nat.{sub-self}
 use native.Mathlib.Omega.{arith}
 use borrow.Author.Needs.{needs}
-use lib.ListN.{length, take, drop, getD}
-use lib.Seq.{take-nil}
+use lib.ListN.{length, take, drop, getD, length-drop}
+use lib.Seq.{take-nil, take-suc, getD-drop}
 use Rattle.format.specs.Text.{string}
-use Rattle.format.specs.Segments.{segmentsRight}
+use Rattle.format.specs.Segments.{slash, segmentRight, segmentsRight}
 use Rattle.format.specs.Laws.Strings.{string-stops, string-ends, string-goes-on, Passed, passed-next, text-ended, text-long, text-cut}
-use Rattle.text.specs.declared.Segments.{Segments}
-use Rattle.text.specs.Segments.{rightWith}
+use Rattle.format.specs.Laws.Segments.{NoSlash, none-free, more-free, last-right, first-right}
 use Rattle.text.proofs.read_path.Statement.{statement}
 use Rattle.text.proofs.read_path.Tie as tie
 
--- what is left of the path, within the limit, when i of its bytes are read
+-- what is left of the path, within the limit, from byte i on
 abbrev left : List ℕ → ℕ → List ℕ
 left t i = take (1023 - i) (string (drop i t))
 
@@ -33,29 +33,93 @@ one-less t i l nz =
     let e : 1023 - i ≡ suc (1023 - (i + 1)) = omega arith in
     rw (string-goes-on t i nz, e)
 
--- what is judged where nothing is left, and after one byte more
-at-end : (seen : Segments) (t : List ℕ) (i : ℕ) {r whole : Bool} → left t i ≡ [] → r ≡ rightWith seen [] → rightWith seen (left t i) ≡ whole → r ≡ whole
-at-end seen t i e r h = r ∙ ap (rightWith seen) (sym e) ∙ h
+-- the bytes from a to i
+abbrev between : List ℕ → ℕ → ℕ → List ℕ
+between t a i = take (i - a) (drop a t)
 
-one-byte : (seen next : Segments) (t : List ℕ) (i : ℕ) {whole : Bool} → i < 1023 → (getD t i 0 ≡ 0 → ⊥)
-    → ((u : List ℕ) → rightWith next u ≡ rightWith seen (getD t i 0 ∷ u)) → rightWith seen (left t i) ≡ whole → rightWith next (left t (i + 1)) ≡ whole
-one-byte seen next t i l nz step h = step (left t (i + 1)) ∙ ap (rightWith seen) (sym (one-less t i l nz)) ∙ h
+one-more : (t : List ℕ) (a i : ℕ) → a ≤ i → i < length t → between t a (i + 1) ≡ between t a i ++ getD t i 0 ∷ []
+one-more t a i l g =
+    let e : i + 1 - a ≡ suc (i - a) = omega arith in
+    let k : a + (i - a) ≡ i = omega arith in
+    rw (e, take-suc (drop a t) (i - a) 0 (omega (arith, length-drop a t)), getD-drop, k)
+
+-- i bytes are read, the last segment starts at a, and those before it are right or not
+record Reading (t : List ℕ) (right : Bool) (a i : ℕ) : Type 0 where
+  started : a ≤ i
+  inside : i ≤ length t
+  within : i ≤ 1023
+  passed : Passed t i
+  free : NoSlash (between t a i)
+  ahead : left t a ≡ between t a i ++ left t i
+  judged : (right && segmentsRight (left t a)) ≡ segmentsRight (left t 0)
+
+module _ {t : List ℕ} {right : Bool} {a i : ℕ} (h : Reading t right a i) where
+  abbrev segment : List ℕ
+  segment = between t a i
+
+  -- with what follows on the segment
+  judged-with : (rest : List ℕ) → left t i ≡ rest → (right && segmentsRight (segment ++ rest)) ≡ segmentsRight (left t 0)
+  judged-with rest e = ap (λ l. right && segmentsRight l) (sym (h .ahead ∙ ap (λ l. segment ++ l) e)) ∙ h .judged
+
+  at-end : {r : Bool} → left t i ≡ [] → r ≡ (right && segmentRight segment) → r ≡ segmentsRight (left t 0)
+  at-end e r = r ∙ ap (λ b. right && b) (sym (last-right segment (h .free))) ∙ rw append-nil at (judged-with [] e)
+
+  module _ (more : i < length t) (room : i < 1023) (nz : getD t i 0 ≡ 0 → ⊥) where
+    next-byte : (getD t i 0 ≡ slash → ⊥) → Reading t right a (i + 1)
+    next-byte other =
+        let longer = one-more t a i (h .started) more in
+        record {
+          started = omega arith;
+          inside = omega arith;
+          within = omega arith;
+          passed = passed-next t i (h .passed) nz;
+          free = rw longer (more-free segment (getD t i 0) (h .free) other);
+          ahead = rw (longer, append-assoc) (h .ahead ∙ ap (λ l. segment ++ l) (one-less t i room nz));
+          judged = h .judged;
+        }
+
+    next-slash : {r : Bool} → getD t i 0 ≡ slash → r ≡ (right && segmentRight segment) → Reading t r (i + 1) (i + 1)
+    next-slash e r =
+        let rest = judged-with (slash ∷ left t (i + 1)) (one-less t i room nz ∙ ap (λ b. b ∷ left t (i + 1)) e) in
+        record {
+          started = omega arith;
+          inside = omega arith;
+          within = omega arith;
+          passed = passed-next t i (h .passed) nz;
+          free = rw sub-self none-free;
+          ahead = rw sub-self;
+          judged =
+              ap (λ b. b && segmentsRight (left t (i + 1))) r
+              ∙ and-assoc right (segmentRight segment) (segmentsRight (left t (i + 1)))
+              ∙ ap (λ b. right && b) (sym (first-right segment (left t (i + 1)) (h .free)))
+              ∙ rest;
+        }
+
+same : {t : List ℕ} {right r : Bool} {a b i : ℕ} → r ≡ right → b ≡ a → Reading t right a i → Reading t r b i
+same e f h = rw (e, f) h
 
 abbrev Inv-loop : tie.InvT-loop
-Inv-loop part segments₀ i₀ segments i =
-    (i ≤ length part) × (i ≤ 1023) × Passed part i × (rightWith segments (left part i) ≡ segmentsRight (take 1023 (string part)))
+Inv-loop part right₀ start₀ i₀ right start i = Reading part right start i
 
 abbrev μ-loop : tie.MeasureT-loop
-μ-loop part segments₀ i₀ segments i = length part - i
+μ-loop part right₀ start₀ i₀ right start i = length part - i
 
 loop-holds : tie.Need-loop-holds Inv-loop μ-loop
-loop-holds c = (omega arith, omega arith, omega arith, refl)
+loop-holds c = record {
+  started = omega arith;
+  inside = omega arith;
+  within = omega arith;
+  passed = omega arith;
+  free = none-free;
+  ahead = refl;
+  judged = refl;
+}
 
 shared-slice-read-byte : tie.Need-shared-slice-read-byte Inv-loop μ-loop
 shared-slice-read-byte c = search needs
 
-right-at-end-requires : tie.Need-right-at-end-requires Inv-loop μ-loop
-right-at-end-requires c κs = search needs
+right-to-requires : tie.Need-right-to-requires Inv-loop μ-loop
+right-to-requires c κs = (omega arith, omega arith)
 
 ended-requires : tie.Need-ended-requires Inv-loop μ-loop
 ended-requires c κs = search needs
@@ -66,24 +130,27 @@ returns c =
     let t = l .before .before .args .part .now in
     let stop = c .before .before .if1 .taken in
     let none = none-left t (l .loop .i) (string-stops t (l .loop .i) stop) in (
-      c .ended .ensures ∙ text-ended 1023 t (l .loop .i) (l .loop .inv .2) (omega arith) (omega arith) stop,
-      at-end (l .loop .segments) t (l .loop .i) none (c .before .right-at-end .ensures) (l .loop .inv .3),
+      c .ended .ensures ∙ text-ended 1023 t (l .loop .i) (l .loop .inv .passed) (omega arith) (omega arith) stop,
+      at-end (l .loop .inv) none (c .before .right-to .ensures),
     )
 
-right-at-end-requires-2 : tie.Need-right-at-end-requires-2 Inv-loop μ-loop
-right-at-end-requires-2 c κs = search needs
+right-to-requires-2 : tie.Need-right-to-requires-2 Inv-loop μ-loop
+right-to-requires-2 c κs = (omega arith, omega arith)
 
 returns-2 : tie.Need-returns-2 Inv-loop μ-loop
 returns-2 c =
     let l = c .before .before .before .before .before in
     let t = l .before .before .args .part .now in
     let full = c .before .if2 .taken in (
-      text-long 1023 t (l .loop .i) (l .loop .inv .2) full (c .before .before .if1 .left),
-      at-end (l .loop .segments) t (l .loop .i) (none-within t (l .loop .i) full) (c .right-at-end2 .ensures) (l .loop .inv .3),
+      text-long 1023 t (l .loop .i) (l .loop .inv .passed) full (c .before .before .if1 .left),
+      at-end (l .loop .inv) (none-within t (l .loop .i) full) (c .right-to2 .ensures),
     )
 
-after-requires : tie.Need-after-requires Inv-loop μ-loop
-after-requires c κs = search needs
+right-to-requires-3 : tie.Need-right-to-requires-3 Inv-loop μ-loop
+right-to-requires-3 c κs = (omega arith, omega arith)
+
+add-start : tie.Need-add-start Inv-loop μ-loop
+add-start c = search needs
 
 add-i : tie.Need-add-i Inv-loop μ-loop
 add-i c = search needs
@@ -94,25 +161,22 @@ loop-less c = search needs
 loop-again : tie.Need-loop-again Inv-loop μ-loop
 loop-again c =
     let l = c .before .before .before .before .before in
-    let t = l .before .before .args .part .now in (
-      omega arith,
-      omega arith,
-      passed-next t (l .loop .i) (l .loop .inv .2) (c .before .before .if1 .left),
-      one-byte (l .loop .segments) (c .after .result) t (l .loop .i) (omega arith) (c .before .before .if1 .left) (c .after .ensures) (l .loop .inv .3),
-    )
+    let nz = c .before .before .if1 .left in
+    ⊎-elim
+    (λ w. same (w .2) (w .3) (next-slash (l .loop .inv) (omega arith) (omega arith) nz (w .0 .taken) (w .1 .ensures)))
+    (λ w. same (w .1) (w .2) (next-byte (l .loop .inv) (omega arith) (omega arith) nz (w .0 .left)))
+    (c .if3 .came)
 
-right-at-end-requires-3 : tie.Need-right-at-end-requires-3 Inv-loop μ-loop
-right-at-end-requires-3 c κs = search needs
+right-to-requires-4 : tie.Need-right-to-requires-4 Inv-loop μ-loop
+right-to-requires-4 c κs = (omega arith, omega arith)
 
 returns-3 : tie.Need-returns-3 Inv-loop μ-loop
 returns-3 c =
     let l = c .before .before in
     let t = l .before .before .args .part .now in
     let end = c .before .loop-test .left in
-    let none = none-left t (l .loop .i) (string-ends t (l .loop .i) end) in (
-      text-cut 1023 t (l .loop .i) (l .loop .inv .2) (omega arith) end,
-      at-end (l .loop .segments) t (l .loop .i) none (c .right-at-end3 .ensures) (l .loop .inv .3),
-    )
+    let none = none-left t (l .loop .i) (string-ends t (l .loop .i) end) in
+    (text-cut 1023 t (l .loop .i) (l .loop .inv .passed) (omega arith) end, at-end (l .loop .inv) none (c .right-to4 .ensures))
 
 pub read-path-spec : {M : Type 1} → statement M
 read-path-spec =
@@ -122,14 +186,15 @@ read-path-spec =
     μ-loop
     loop-holds
     shared-slice-read-byte
-    right-at-end-requires
+    right-to-requires
     ended-requires
     returns
-    right-at-end-requires-2
+    right-to-requires-2
     returns-2
-    after-requires
+    right-to-requires-3
+    add-start
     add-i
     loop-less
     loop-again
-    right-at-end-requires-3
+    right-to-requires-4
     returns-3)
