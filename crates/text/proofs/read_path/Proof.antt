@@ -43,7 +43,7 @@ one-more t a i l g =
     let k : a + (i - a) ≡ i = omega arith in
     rw (e, take-suc (drop a t) (i - a) 0 (omega (arith, length-drop a t)), getD-drop, k)
 
--- i bytes are read, the last segment starts at a, and those before it are right or not
+-- i bytes are read, the last segment starts at a, and `right` says whether those before it are right
 record Reading (t : List ℕ) (right : Bool) (a i : ℕ) : Type 0 where
   started : a ≤ i
   inside : i ≤ length t
@@ -95,6 +95,7 @@ module _ {t : List ℕ} {right : Bool} {a i : ℕ} (h : Reading t right a i) whe
               ∙ rest;
         }
 
+-- where the two ways of the `if` meet, `right` and `start` are known by equations
 same : {t : List ℕ} {right r : Bool} {a b i : ℕ} → r ≡ right → b ≡ a → Reading t right a i → Reading t r b i
 same e f h = rw (e, f) h
 
