@@ -116,6 +116,6 @@ pathExamples =
     looksUp (patched 108 (46 ∷ 46 ∷ []) farm) oat (lent 5) (lookedUp 0 40 1 2) (1 ∷ 0 ∷ 7 ∷ 7 ∷ 7 ∷ []) ∷
     []
 
-examples-hold : T (all examples && all pathExamples)
+examples-hold : T (all pathExamples && all examples)
 unfolding all holds examples pathExamples lent looped patched farm cow oat pig ewe sameCheck sameLookup sameDirectory check checkBuckets queryFault lookup lookupEnds metAnswer answerWords directoryFault directory directoryPath walk recordFault nameFault listFault imagesFault imageWords headerFault segments segmentRight allRight pathFault pathsFault tablesFault _orElse_ text string isWhole sameBytes signed hashFrom hashNumbers hash allowed be
 examples-hold = tt
