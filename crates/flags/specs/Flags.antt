@@ -1,0 +1,79 @@
+-- The flags of an image in two numberings, and what the calls answer that turn one into the other.
+use Prim.Native.Nat.{ℕ, zero, suc, _+_, _*_, _/_, _%_, _^_, _≤_}
+use mathlib.Core.Path.{_≡_}
+use mathlib.Core.Bool.{Bool, not, _&&_}
+use lib.Dec.{leb}
+use Rattle.format.specs.Fault.{given, ifKept}
+use Rattle.flags.specs.declared.FlagsAnswer.{FlagsAnswer}
+
+-- the flags, in the order of source document 000's ICON_FLAGS
+pub data Flag : Type 0 where
+  bitmap : Flag
+  xpm : Flag
+  svg : Flag
+  iconFile : Flag
+
+-- document 01's numbering, which is that of the freedesktop note, and the one that GTK's generator writes
+pub data Numbering : Type 0 where
+  freedesktop : Numbering
+  gtk : Numbering
+
+-- at which bit a flag stands: bitmap 1, XPM 2, SVG 4, icon file 8 in the one, and XPM 1, SVG 2, bitmap 4, icon file 8 in the other
+abbrev pub bit : Numbering → Flag → ℕ
+bit freedesktop bitmap = 0
+bit freedesktop xpm = 1
+bit freedesktop svg = 2
+bit freedesktop iconFile = 3
+bit gtk xpm = 0
+bit gtk svg = 1
+bit gtk bitmap = 2
+bit gtk iconFile = 3
+
+-- 1 if the flag is set in x, and else 0
+abbrev pub isSet : Numbering → ℕ → Flag → ℕ
+isSet n x f = x / 2 ^ bit n f % 2
+
+-- the number that has in the numbering m the flags that x has in the numbering n
+unfoldable pub renumbered : Numbering → Numbering → ℕ → ℕ
+renumbered n m x =
+    let moved : Flag → ℕ = λ f. isSet n x f * 2 ^ bit m f in
+    moved bitmap + moved xpm + moved svg + moved iconFile
+
+-- the numbering that a caller names: 0 is document 01's and 1 the other; a larger number is unknown, and refused
+abbrev pub numbering : ℕ → Numbering
+numbering zero = freedesktop
+numbering (suc k) = gtk
+
+abbrev pub known : ℕ → Bool
+known k = leb k 1
+
+-- the flags x are 0 to 15, and both numberings are known
+abbrev pub flagsRight : ℕ → ℕ → ℕ → Bool
+flagsRight x j k = leb x 15 && (known j && known k)
+
+-- the same as facts
+pub record Right (x j k : ℕ) : Type 0 where
+  pub flags : x ≤ 15
+  pub from : j ≤ 1
+  pub to : k ≤ 1
+
+abbrev pub flagsIs : ℕ → ℕ → ℕ → FlagsAnswer
+flagsIs n p x = record { number = n; place = p; flags = x }
+
+-- the flags x of the numbering j in the numbering k; 27 where they are not right, and the result is then 0
+unfoldable pub answer : ℕ → ℕ → ℕ → FlagsAnswer
+answer x j k =
+    let f = given (not (flagsRight x j k)) 27 0 in
+    flagsIs (f .number) (f .place) (ifKept f (renumbered (numbering j) (numbering k) x) 0)
+
+-- the two calls: raw flags of the numbering k in document 01's, and back
+abbrev pub flagsIn : ℕ → ℕ → FlagsAnswer
+flagsIn x k = answer x k 0
+
+abbrev pub flagsOut : ℕ → ℕ → FlagsAnswer
+flagsOut x k = answer x 0 k
+
+-- what request 5 promises: there and back is the identity, whichever way is gone first
+pub record ThereAndBack (x k : ℕ) : Type 0 where
+  pub in-out : flagsOut (flagsIn x k .flags) k ≡ flagsIs 0 0 x
+  pub out-in : flagsIn (flagsOut x k .flags) k ≡ flagsIs 0 0 x

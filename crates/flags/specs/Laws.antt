@@ -1,0 +1,85 @@
+-- What follows from the definitions. What is said of the flags 0 to 15 is computed at each of them.
+use Prim.Native.Nat.{ℕ, zero, suc, _+_, _≤_, _<_}
+use mathlib.Core.Path.{_≡_, refl, ap}
+use mathlib.Core.List.{List}
+use mathlib.Core.Bool.{Bool, true, false, _&&_, and-eq-true-iff}
+use native.Mathlib.Omega.{arith}
+use borrow.Author.Count.{below-more}
+use borrow.Author.Tests.{le-leb, leb-true, eqb-true}
+use lib.Dec.{eqb, leb}
+use Rattle.format.specs.Number.{be}
+use Rattle.format.specs.Header.{directories}
+use Rattle.format.specs.Record.{indexRight, imageRight}
+use Rattle.flags.specs.Flags.{Numbering, freedesktop, gtk, renumbered, numbering, known, flagsRight, Right, flagsIs, answer, flagsIn, ThereAndBack}
+
+-- two functions agree on each number below n, as a test that antt computes
+abbrev pub agreeBelow : ℕ → (ℕ → ℕ) → (ℕ → ℕ) → Bool
+agreeBelow zero f g = true
+agreeBelow (suc n) f g = eqb (f n) (g n) && agreeBelow n f g
+
+pub agree : (n : ℕ) (f g : ℕ → ℕ) → agreeBelow n f g ≡ true → (x : ℕ) → x < n → f x ≡ g x
+agree zero f g e x l = absurd (omega arith)
+agree (suc n) f g e x l =
+    let parts = and-eq-true-iff (eqb (f n) (g n)) (agreeBelow n f g) .0 e in
+    below-more (λ y. f y ≡ g y) n (agree n f g (parts .1)) (eqb-true (f n) (g n) (parts .0)) x (omega arith)
+
+-- from a numbering to itself nothing moves
+pub same-numbering : (n : Numbering) (x : ℕ) → x ≤ 15 → renumbered n n x ≡ x
+unfolding renumbered
+same-numbering n x l = agree 16 (renumbered n n) (λ y. y) (computed n) x (omega arith)
+  where
+    computed : (n : Numbering) → agreeBelow 16 (renumbered n n) (λ y. y) ≡ true
+    computed freedesktop = refl
+    computed gtk = refl
+
+-- there and back is the identity, over any two numberings
+pub renumbered-back : (n m : Numbering) (x : ℕ) → x ≤ 15 → renumbered m n (renumbered n m x) ≡ x
+unfolding renumbered
+renumbered-back n m x l = agree 16 (λ y. renumbered m n (renumbered n m y)) (λ y. y) (computed n m) x (omega arith)
+  where
+    computed : (n m : Numbering) → agreeBelow 16 (λ y. renumbered m n (renumbered n m y)) (λ y. y) ≡ true
+    computed freedesktop freedesktop = refl
+    computed freedesktop gtk = refl
+    computed gtk freedesktop = refl
+    computed gtk gtk = refl
+
+-- whatever the number, no more than the four flags is left of it
+pub renumbered-small : (n m : Numbering) (x : ℕ) → renumbered n m x ≤ 15
+unfolding renumbered
+renumbered-small n freedesktop x = omega arith
+renumbered-small n gtk x = omega arith
+
+pub right-facts : (x j k : ℕ) → flagsRight x j k ≡ true → Right x j k
+right-facts x j k e =
+    let parts = and-eq-true-iff (leb x 15) (known j && known k) .0 e in
+    let numberings = and-eq-true-iff (known j) (known k) .0 (parts .1) in
+    record { flags = leb-true x 15 (parts .0); from = leb-true j 1 (numberings .0); to = leb-true k 1 (numberings .1) }
+
+-- the two answers
+pub answer-right : (x j k : ℕ) → Right x j k → answer x j k ≡ flagsIs 0 0 (renumbered (numbering j) (numbering k) x)
+unfolding answer
+answer-right x j k r = rw (le-leb x 15 (r .flags), le-leb j 1 (r .from), le-leb k 1 (r .to))
+
+pub answer-wrong : (x j k : ℕ) → flagsRight x j k ≡ false → answer x j k ≡ flagsIs 27 0 0
+unfolding answer
+answer-wrong x j k e = rw e
+
+answer-back : (x j k : ℕ) → Right x j k → answer (answer x j k .flags) k j ≡ flagsIs 0 0 x
+answer-back x j k r =
+    let y = renumbered (numbering j) (numbering k) x in
+    let turned : Right y k j = record { flags = renumbered-small (numbering j) (numbering k) x; from = r .to; to = r .from } in
+    rw (answer-right x j k r, answer-right y k j turned) (ap (flagsIs 0 0) (renumbered-back (numbering j) (numbering k) x (r .flags)))
+
+pub there-and-back : (x k : ℕ) → x ≤ 15 → k ≤ 1 → ThereAndBack x k
+there-and-back x k small low =
+    record {
+      in-out = answer-back x k 0 (record { flags = small; from = low; to = omega arith });
+      out-in = answer-back x 0 k (record { flags = small; from = omega arith; to = low });
+    }
+
+-- the flags of an image that keeps rule 11 are refused in no known numbering
+pub image-taken : (s : List ℕ) (p k : ℕ) → imageRight s p ≡ true → k ≤ 1 → flagsIn (be 2 s (p + 2)) k .number ≡ 0
+image-taken s p k e low =
+    let x = be 2 s (p + 2) in
+    let small = leb-true x 15 (and-eq-true-iff (indexRight (directories s) (be 2 s p)) (leb x 15) .0 e .1) in
+    rw (answer-right x k 0 (record { flags = small; from = low; to = omega arith }))
