@@ -2,12 +2,13 @@
 use Prim.Native.Nat.{ℕ, zero, suc, _+_, _≤_, _<_}
 use mathlib.Core.Path.{_≡_, refl, ap}
 use mathlib.Core.List.{List}
-use mathlib.Core.Bool.{Bool, true, false, _&&_, and-eq-true-iff}
+use mathlib.Core.Bool.{Bool, true, false, not, _&&_, and-eq-true-iff}
 use native.Mathlib.Omega.{arith}
 use borrow.Author.Count.{below-more}
 use borrow.Author.Tests.{le-leb, leb-true, eqb-true}
 use lib.Dec.{eqb, leb}
 use Rattle.format.specs.Number.{be}
+use Rattle.format.specs.Fault.{given}
 use Rattle.format.specs.Header.{directories}
 use Rattle.format.specs.Record.{indexRight, imageRight}
 use Rattle.flags.specs.Flags.{Numbering, freedesktop, gtk, renumbered, numbering, known, flagsRight, Right, flagsIs, answer, flagsIn, ThereAndBack}
@@ -63,6 +64,15 @@ answer-right x j k r = rw (le-leb x 15 (r .flags), le-leb j 1 (r .from), le-leb 
 pub answer-wrong : (x j k : ℕ) → flagsRight x j k ≡ false → answer x j k ≡ flagsIs 27 0 0
 unfolding answer
 answer-wrong x j k e = rw e
+
+-- the place is always 0, so the number and the flags are the whole answer
+pub no-place : (x j k : ℕ) → flagsIs (answer x j k .number) 0 (answer x j k .flags) ≡ answer x j k
+unfolding answer
+no-place x j k = ap (λ p. flagsIs (answer x j k .number) p (answer x j k .flags)) (none (flagsRight x j k))
+  where
+    none : (t : Bool) → 0 ≡ given (not t) 27 0 .place
+    none true = refl
+    none false = refl
 
 answer-back : (x j k : ℕ) → Right x j k → answer (answer x j k .flags) k j ≡ flagsIs 0 0 x
 answer-back x j k r =

@@ -1,9 +1,11 @@
 // The public calls for C: bindings/c/icon_cache.h declares them. Each hands on the library's answer whole, the number as its result and the
-// rest through the pointers; but the path call leaves out the place, which `icon_cache_directory` gives.
+// rest through the pointers; but the path call leaves out the place, which `icon_cache_directory` gives, and the calls for flags do, where it is
+// always 0.
 ghost use mathlib.Core.Path.{_≡_};
 ghost use lib.ListN.{length};
 ghost use Rattle.format.specs.Call.{check, checked, lookup, lookupWords, lookedUp, directory, directoryIs, directoryPart, partIs};
 ghost use Rattle.listing.specs.Listing.{position, step, stepIs};
+ghost use Rattle.flags.specs.Flags.{flagsIs, flagsIn, flagsOut};
 use listing::Position;
 
 #[no_mangle]
@@ -87,5 +89,23 @@ pub extern "C" fn icon_cache_list(
     *count = next.count;
     *place = answer.place;
     *offset = answer.offset;
+    answer.number
+}
+
+#[no_mangle]
+pub extern "C" fn icon_cache_flags_in(raw: u16, numbering: u32, flags: &mut u16) -> u32
+    ensures { λ r. ⌜ flagsIs r 0 (now (flags .exit)) ≡ flagsIn raw numbering ⌝ }
+{
+    let answer = flags::flags_in(raw, numbering);
+    *flags = answer.flags;
+    answer.number
+}
+
+#[no_mangle]
+pub extern "C" fn icon_cache_flags_out(flags: u16, numbering: u32, raw: &mut u16) -> u32
+    ensures { λ r. ⌜ flagsIs r 0 (now (raw .exit)) ≡ flagsOut flags numbering ⌝ }
+{
+    let answer = flags::flags_out(flags, numbering);
+    *raw = answer.flags;
     answer.number
 }
