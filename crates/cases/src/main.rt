@@ -8,6 +8,7 @@ mod hashes;
 mod header;
 mod images;
 mod names;
+mod numberings;
 mod places;
 mod queries;
 mod segments;
@@ -25,4 +26,5 @@ fn main() {
     walks::run();
     queries::run();
     steps::run();
+    numberings::run();
 }
