@@ -57,6 +57,32 @@ static void print_directory(size_t index)
     printf("  directory %zu (%u at %zu)", index, (unsigned)number, place);
 }
 
+/* Prints the names of flags of numbering 0. */
+static void print_names(uint16_t flags)
+{
+    static const char *const names[] = {"bitmap", "XPM", "SVG", "icon file"};
+    for (int bit = 0; bit < 4; bit++) {
+        if (flags >> bit & 1) {
+            printf(" %s", names[bit]);
+        }
+    }
+}
+
+/*
+ * A cache doesn't say how its generator numbers flags, so both readings are printed, and how GTK would write the first. A lookup gives no flags
+ * above 15 and the numberings are known, so the calls don't refuse.
+ */
+static void print_flags(uint16_t raw)
+{
+    uint16_t from_gtk, for_gtk;
+    icon_cache_flags_in(raw, 1, &from_gtk);
+    icon_cache_flags_out(raw, 1, &for_gtk);
+    printf(", flags %u:", (unsigned)raw);
+    print_names(raw);
+    printf(" (for GTK %u), or from GTK", (unsigned)for_gtk);
+    print_names(from_gtk);
+}
+
 /* Only the records that the lookup meets are judged, so it may find a name in a cache that the check refuses. */
 static int lookup(const char *name)
 {
@@ -71,7 +97,8 @@ static int lookup(const char *name)
     for (size_t i = 0; i < images; i++) {
         uint32_t first = words[2 * i];
         print_directory(first / 65536);
-        printf(", flags %u, data at %u\n", (unsigned)(first % 65536), (unsigned)words[2 * i + 1]);
+        print_flags((uint16_t)(first % 65536));
+        printf(", data at %u\n", (unsigned)words[2 * i + 1]);
     }
     return 0;
 }

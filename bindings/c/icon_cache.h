@@ -3,7 +3,7 @@
  *
  * Every function takes any bytes in the cache, any name and any number, and returns an answer number:
  *
- *    0  accepted, found, or a record handed back    place: 0, or the record found
+ *    0  accepted, found, or handed back             place: 0, or the record found
  *    1  fewer than 12 bytes                         place: 0
  *    2  more than 16,777,216 bytes                  place: 0
  *    3  the version is not 1.0                      place: 0
@@ -21,6 +21,7 @@
  *   15  no directory has that index                 place: 0
  *   16  a piece of a path, cut at each "/", is empty, "." or ".."   place: the path's field in the directory list
  *   26  the position names no bucket, or its count is more than the length less 11        place: 0
+ *   27  the flags are above 15, or the numbering is unknown         place: 0
  *   28  no further record                           place: 0
  *   30  no record bears the name                    place: 0
  *
@@ -56,8 +57,8 @@ uint32_t icon_cache_check(const uint8_t *cache, size_t cache_len,
  *
  * Names are compared byte for byte: two ways to write an accented letter in Unicode are two names.
  *
- * The flags are named as the layout's document numbers them. Some generators, GTK's among them, write another numbering under the same
- * version (XPM suffix 1, SVG suffix 2, bitmap suffix 4), so the names may be wrong for their caches.
+ * The flags are the sum that stands in the cache. The layout's document numbers them as above; some generators, GTK's among them, number them in
+ * another way under the same version, and then icon_cache_flags_in turns them into these.
  *
  * An endless chain costs even more time than in the check, tens of seconds at 16 MiB and less than a second at 256 KiB: where somebody
  * waits, do it in a thread of its own or set a smaller limit of length.
@@ -97,6 +98,19 @@ uint32_t icon_cache_directory_path(const uint8_t *cache, size_t cache_len, size_
  */
 uint32_t icon_cache_list(const uint8_t *cache, size_t cache_len,
                          size_t *bucket, size_t *count, size_t *place, size_t *record);
+
+/*
+ * Flags are numbered in two ways under the same version, and a cache doesn't say in which:
+ *
+ *    0  bitmap suffix 1, XPM suffix 2, SVG suffix 4, icon file 8: the layout's document, and generators that follow it
+ *    1  XPM suffix 1, SVG suffix 2, bitmap suffix 4, icon file 8: GTK's gtk-update-icon-cache
+ *
+ * icon_cache_flags_in turns raw flags of `numbering`, as a lookup gives them, into those of numbering 0, and icon_cache_flags_out turns them back:
+ * one after the other, in either order, they give the flags that were handed in. With 27, for flags above 15 or another numbering, the result is 0.
+ * No lookup gives flags above 15. There is no pointer for the place, since it would always be 0.
+ */
+uint32_t icon_cache_flags_in(uint16_t raw, uint32_t numbering, uint16_t *flags);
+uint32_t icon_cache_flags_out(uint16_t flags, uint32_t numbering, uint16_t *raw);
 
 #ifdef __cplusplus
 }
