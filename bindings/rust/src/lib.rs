@@ -3,7 +3,8 @@
 //! The cache is a lent byte slice; nothing in it is trusted. [`check`] judges
 //! the whole cache, [`lookup`] finds the images of one icon name, [`directory`]
 //! gives the path of one directory index, [`records`] hands back all icon records,
-//! and [`records_from`] those from a [`Position`] on.
+//! and [`records_from`] those from a [`Position`] on. [`Flags`] names the flags of
+//! an image by the [`Numbering`] of the cache's generator.
 //!
 //! ```
 //! use icon_cache::{check, directory, lookup, records, FARM_CACHE};
@@ -24,11 +25,13 @@
 //! the same calls without any allocation.
 
 mod farm;
+mod flags;
 pub mod raw;
 mod records;
 mod refusal;
 
 pub use farm::FARM_CACHE;
+pub use flags::{Flags, Numbering};
 pub use raw::Position;
 pub use records::{records, records_from, Record, Records};
 pub use refusal::Refusal;
@@ -56,22 +59,19 @@ pub struct Checked {
 
 /// One image of an icon.
 ///
-/// The flags are named as the layout's document numbers them. Some generators,
-/// GTK's among them, write another numbering under the same version (XPM suffix
-/// 1, SVG suffix 2, bitmap suffix 4), so the names may be wrong for their caches.
-///
 /// ```
-/// use icon_cache::{lookup, Image, FARM_CACHE};
+/// use icon_cache::{lookup, Flags, Numbering, FARM_CACHE};
 ///
 /// let cow = lookup(FARM_CACHE, b"cow").unwrap();
-/// assert_eq!(cow.images[0].flags, Image::BITMAP_SUFFIX);
-/// assert_eq!(cow.images[1].flags, Image::SVG_SUFFIX);
+/// let flags = Flags::from_raw(cow.images[0].flags, Numbering::Freedesktop).unwrap();
+/// assert_eq!(flags, Flags::BITMAP_SUFFIX);
 /// ```
 #[derive(Clone, Copy, Debug, PartialEq, Eq)]
 pub struct Image {
     /// The index of its directory, or [`Image::NO_DIRECTORY`].
     pub directory: u16,
-    /// The sum of its flags, 0 to 15.
+    /// The sum of its flags, 0 to 15, as it stands in the cache. Which flags they
+    /// are depends on the generator: [`Flags::from_raw`] takes a [`Numbering`].
     pub flags: u16,
     /// The offset of its image data, as it stands in the cache.
     pub data_offset: u32,
@@ -80,14 +80,6 @@ pub struct Image {
 impl Image {
     /// The directory index of each image in a cache without directories.
     pub const NO_DIRECTORY: u16 = 0xFFFF;
-    /// The flag of a bitmap file, such as PNG.
-    pub const BITMAP_SUFFIX: u16 = 1;
-    /// The flag of an XPM file.
-    pub const XPM_SUFFIX: u16 = 2;
-    /// The flag of an SVG file.
-    pub const SVG_SUFFIX: u16 = 4;
-    /// The flag of an icon file (`.icon`), which describes the image.
-    pub const ICON_FILE: u16 = 8;
 }
 
 /// An icon found.

@@ -85,6 +85,15 @@ impl Step {
     pub const DONE: u32 = 28;
 }
 
+/// The answer of [`flags_in`] and [`flags_out`].
+#[derive(Clone, Copy, Debug, PartialEq, Eq)]
+pub struct Renumbered {
+    /// The answer number, 0 for flags in the numbering asked for.
+    pub number: u32,
+    /// These flags, 0 with a refusal.
+    pub flags: u16,
+}
+
 mod c {
     extern "C" {
         pub fn icon_cache_check(
@@ -131,11 +140,16 @@ mod c {
             place: *mut usize,
             record: *mut usize,
         ) -> u32;
+
+        pub fn icon_cache_flags_in(raw: u16, numbering: u32, flags: *mut u16) -> u32;
+
+        pub fn icon_cache_flags_out(flags: u16, numbering: u32, raw: *mut u16) -> u32;
     }
 }
 
-/// No call answers this value, so a value that was not written shows.
+/// No call answers these values, so a value that was not written shows.
 const UNWRITTEN: usize = usize::MAX;
+const UNWRITTEN_FLAGS: u16 = u16::MAX;
 
 /// The address of the bytes. That of an empty slice may dangle, so C code is
 /// handed the address of a real byte instead.
@@ -270,4 +284,26 @@ pub fn list(cache: &[u8], position: Position) -> Step {
         record,
         position: Position { bucket, count },
     }
+}
+
+/// Turns raw flags of a numbering into those of numbering 0: bitmap suffix 1, XPM
+/// suffix 2, SVG suffix 4, icon file 8. Numbering 1 has XPM suffix 1, SVG suffix 2,
+/// bitmap suffix 4, icon file 8. Others are refused with 27, and so are flags above
+/// 15.
+#[inline]
+pub fn flags_in(raw: u16, numbering: u32) -> Renumbered {
+    let mut flags = UNWRITTEN_FLAGS;
+    // SAFETY: the pointer is valid for this call, and only the flags are written.
+    let number = unsafe { c::icon_cache_flags_in(raw, numbering, &mut flags) };
+    Renumbered { number, flags }
+}
+
+/// Turns flags of numbering 0 into raw flags of a numbering, the other way round
+/// than [`flags_in`]; what that refuses is refused.
+#[inline]
+pub fn flags_out(flags: u16, numbering: u32) -> Renumbered {
+    let mut raw = UNWRITTEN_FLAGS;
+    // SAFETY: the pointer is valid for this call, and only the flags are written.
+    let number = unsafe { c::icon_cache_flags_out(flags, numbering, &mut raw) };
+    Renumbered { number, flags: raw }
 }

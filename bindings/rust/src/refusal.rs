@@ -18,13 +18,13 @@ use std::fmt;
 /// ```
 #[derive(Clone, Copy, Debug, PartialEq, Eq)]
 pub struct Refusal {
-    /// The answer number, 1 to 16, 26 or 30.
+    /// The answer number, 1 to 16, 26, 27 or 30.
     pub number: u32,
     /// The offset of the fault in the cache, 0 where it has none.
     pub place: usize,
     /// How many icon records the call opened. It is 0 from
-    /// [`directory`](crate::directory), which opens none, and from
-    /// [`Records`](crate::Records), which doesn't count them.
+    /// [`directory`](crate::directory) and [`Flags`](crate::Flags), which open
+    /// none, and from [`Records`](crate::Records), which doesn't count them.
     pub opened: usize,
 }
 
@@ -47,6 +47,9 @@ impl Refusal {
     /// The position names no bucket, or its count is more than the cache's
     /// length less 11.
     pub const BAD_POSITION: u32 = 26;
+    /// The sum of the flags is above 15, or, in [`raw`](crate::raw), the numbering
+    /// is unknown.
+    pub const BAD_FLAGS: u32 = 27;
     /// No record bears the name asked for.
     pub const ABSENT: u32 = 30;
 }
@@ -71,6 +74,7 @@ impl fmt::Display for Refusal {
             15 => "there is no directory of this index",
             16 => "a piece of this directory path, cut at its slashes, is empty, \".\" or \"..\"",
             26 => "the position asked for names no bucket, or its count is too large",
+            27 => "the flags are above 15, or their numbering is unknown",
             30 => "there is no icon of this name",
             _ => "the answer number is unknown",
         })
@@ -103,6 +107,7 @@ mod tests {
             (Refusal::NO_SUCH_DIRECTORY, "no directory"),
             (Refusal::BAD_SEGMENT, "a piece of this directory path"),
             (Refusal::BAD_POSITION, "the position"),
+            (Refusal::BAD_FLAGS, "the flags are above 15"),
             (Refusal::ABSENT, "no icon"),
         ] {
             assert!(sentence(number).contains(words), "{number}");
@@ -111,8 +116,8 @@ mod tests {
 
     #[test]
     fn each_number_has_its_own_sentence() {
-        let known: HashSet<_> = (1..=16).chain([26, 30]).map(sentence).collect();
-        assert_eq!(known.len(), 18);
+        let known: HashSet<_> = (1..=16).chain([26, 27, 30]).map(sentence).collect();
+        assert_eq!(known.len(), 19);
         assert!(!known.contains(&sentence(0)));
     }
 }

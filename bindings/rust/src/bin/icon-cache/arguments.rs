@@ -2,7 +2,7 @@
 
 use crate::input::is_standard_input;
 use crate::{help, show};
-use icon_cache::Position;
+use icon_cache::{Numbering, Position};
 use std::collections::HashMap;
 use std::ffi::{OsStr, OsString};
 
@@ -14,6 +14,7 @@ pub enum Request {
     Lookup {
         file: OsString,
         names: Vec<OsString>,
+        numbering: Numbering,
     },
     Dirs(OsString),
     List {
@@ -49,7 +50,7 @@ const COMMANDS: [Command; 4] = [
     Command {
         name: "lookup",
         help: help::LOOKUP,
-        options: &[],
+        options: &[NUMBERING],
         request: lookup,
     },
     Command {
@@ -68,6 +69,7 @@ const COMMANDS: [Command; 4] = [
 
 const FROM: &str = "--from";
 const LIMIT: &str = "--limit";
+const NUMBERING: &str = "--numbering";
 
 /// What stands behind the name of a command.
 #[derive(Default)]
@@ -157,6 +159,10 @@ fn check(given: Given) -> Result<Request, &'static str> {
 }
 
 fn lookup(given: Given) -> Result<Request, &'static str> {
+    let numbering = match given.values.get(NUMBERING) {
+        Some(value) => numbering(value).ok_or("--numbering takes freedesktop or gtk")?,
+        None => Numbering::default(),
+    };
     let mut operands = given.operands;
     match operands.len() {
         0 => Err("a file and a name are missing"),
@@ -164,7 +170,11 @@ fn lookup(given: Given) -> Result<Request, &'static str> {
         _ => {
             let names = operands.split_off(1);
             let file = operands.remove(0);
-            Ok(Request::Lookup { file, names })
+            Ok(Request::Lookup {
+                file,
+                names,
+                numbering,
+            })
         }
     }
 }
@@ -192,6 +202,14 @@ fn only_file(mut files: Vec<OsString>) -> Result<OsString, &'static str> {
         (None, _) => Err("a file is missing"),
         (Some(file), 0) => Ok(file),
         _ => Err("there is more than one file"),
+    }
+}
+
+fn numbering(value: &str) -> Option<Numbering> {
+    match value {
+        "freedesktop" => Some(Numbering::Freedesktop),
+        "gtk" => Some(Numbering::Gtk),
+        _ => None,
     }
 }
 

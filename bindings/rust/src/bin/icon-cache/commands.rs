@@ -4,7 +4,7 @@ use crate::input::Source;
 use crate::output::{Colour, Output, Status};
 use crate::show;
 use icon_cache::raw::{self, Position};
-use icon_cache::{Found, Image, Record, Refusal};
+use icon_cache::{Found, Image, Numbering, Record, Refusal};
 use std::ffi::{OsStr, OsString};
 
 pub fn check(output: &mut Output, files: &[OsString]) -> Status {
@@ -16,11 +16,16 @@ pub fn check(output: &mut Output, files: &[OsString]) -> Status {
     status.max().unwrap_or(Status::Good)
 }
 
-pub fn lookup(output: &mut Output, file: &OsStr, names: &[OsString]) -> Status {
+pub fn lookup(
+    output: &mut Output,
+    file: &OsStr,
+    names: &[OsString],
+    numbering: Numbering,
+) -> Status {
     with_cache(output, file, |output, _, cache| {
         let names = names.iter().map(|name| name.as_encoded_bytes());
         let status = names.map(|name| {
-            let status = lookup_name(output, cache, name);
+            let status = lookup_name(output, cache, name, numbering);
             output.flush();
             status
         });
@@ -79,10 +84,10 @@ fn say_refused(output: &mut Output, what: &str, refusal: &Refusal) -> Status {
     Status::Refused
 }
 
-fn lookup_name(output: &mut Output, cache: &[u8], name: &[u8]) -> Status {
+fn lookup_name(output: &mut Output, cache: &[u8], name: &[u8], numbering: Numbering) -> Status {
     let shown = show::bytes(name);
     match icon_cache::lookup(cache, name) {
-        Ok(icon) => say_found(output, cache, &shown, &icon),
+        Ok(icon) => say_found(output, cache, &shown, &icon, numbering),
         Err(refusal) if refusal.number == Refusal::ABSENT => {
             let absent = output.paint(Colour::Yellow, "absent");
             output.line(&format!("{shown}: {absent}: {refusal}"));
@@ -92,7 +97,13 @@ fn lookup_name(output: &mut Output, cache: &[u8], name: &[u8]) -> Status {
     }
 }
 
-fn say_found(output: &mut Output, cache: &[u8], shown: &str, icon: &Found) -> Status {
+fn say_found(
+    output: &mut Output,
+    cache: &[u8],
+    shown: &str,
+    icon: &Found,
+    numbering: Numbering,
+) -> Status {
     let found = output.paint(Colour::Green, "found");
     let images = show::count(icon.images.len(), "image", "images");
     let record = show::offset(icon.record);
@@ -100,12 +111,12 @@ fn say_found(output: &mut Output, cache: &[u8], shown: &str, icon: &Found) -> St
     let status = icon
         .images
         .iter()
-        .map(|image| say_image(output, cache, image));
+        .map(|image| say_image(output, cache, image, numbering));
     status.max().unwrap_or(Status::Good)
 }
 
-fn say_image(output: &mut Output, cache: &[u8], image: &Image) -> Status {
-    let flags = show::flags(image.flags);
+fn say_image(output: &mut Output, cache: &[u8], image: &Image, numbering: Numbering) -> Status {
+    let flags = show::flags(image.flags, numbering);
     let data = show::offset(image.data_offset as usize);
     let rest = format!("{flags}, data offset {data}");
     match directory_of(cache, image) {

@@ -44,15 +44,21 @@ Exit status: 0 all accepted, 1 one refused, 2 one that can't be read.";
 pub const LOOKUP: &str = "\
 Shows the images of each icon: directory, flags and the offset of image data.
 
-Usage: icon-cache lookup FILE NAME...
+Usage: icon-cache lookup FILE NAME... [--numbering freedesktop|gtk]
 
 A NAME is that of the icon, without directory and suffix: folder-open. Names
 that begin with - are given after --. Names are compared byte for byte: two ways
 to write an accented letter in Unicode are two names.
 
-Flags are the sum of: bitmap suffix 1, XPM suffix 2, SVG suffix 4, icon file 8.
-Some generators mean XPM suffix by 1, SVG suffix by 2 and bitmap suffix by 4; a
-cache doesn't say which it is, so their sum is shown too.
+Flags are shown as their sum, as it stands in the file, and by name. Generators
+number them in two ways, and a cache doesn't say in which.
+
+Options:
+  --numbering freedesktop   bitmap suffix 1, XPM suffix 2, SVG suffix 4, icon
+                            file 8, as the freedesktop note on the format and
+                            generators that follow it do (the default)
+  --numbering gtk           XPM suffix 1, SVG suffix 2, bitmap suffix 4, icon
+                            file 8, as GTK's gtk-update-icon-cache does
 
 A directory as FILE stands for the icon-theme.cache in it, and - for standard
 input. Only the records on the way to the icon are judged; `icon-cache check`

@@ -27,7 +27,11 @@ fn answer(output: &mut Output, request: Request) -> Status {
         Request::Help(text) => say(output, text),
         Request::Version => say(output, help::VERSION),
         Request::Check(files) => commands::check(output, &files),
-        Request::Lookup { file, names } => commands::lookup(output, &file, &names),
+        Request::Lookup {
+            file,
+            names,
+            numbering,
+        } => commands::lookup(output, &file, &names, numbering),
         Request::Dirs(file) => commands::dirs(output, &file),
         Request::List { file, from, limit } => commands::list(output, &file, from, limit),
     }

@@ -1,6 +1,6 @@
 //! How bytes, numbers and refusals are shown.
 
-use icon_cache::{Image, Position, Refusal};
+use icon_cache::{Flags, Numbering, Position, Refusal};
 use std::fmt::Write;
 
 /// Bytes of a path or a name. Bytes that are not UTF-8 are escaped, and so are
@@ -47,26 +47,29 @@ pub fn count(number: usize, one: &str, more: &str) -> String {
     format!("{number} {things}")
 }
 
-const FLAGS: [(u16, &str); 4] = [
-    (Image::BITMAP_SUFFIX, "bitmap suffix"),
-    (Image::XPM_SUFFIX, "XPM suffix"),
-    (Image::SVG_SUFFIX, "SVG suffix"),
-    (Image::ICON_FILE, "icon file"),
+const FLAGS: [(Flags, &str); 4] = [
+    (Flags::BITMAP_SUFFIX, "bitmap suffix"),
+    (Flags::XPM_SUFFIX, "XPM suffix"),
+    (Flags::SVG_SUFFIX, "SVG suffix"),
+    (Flags::ICON_FILE, "icon file"),
 ];
 
-/// The flags as their sum and by name.
-pub fn flags(flags: u16) -> String {
-    let set = FLAGS.iter().filter(|(flag, _)| flags & flag != 0);
+/// The flags of an image found: their sum as it stands in the cache, and their
+/// names in a numbering.
+pub fn flags(raw: u16, numbering: Numbering) -> String {
+    let flags = Flags::from_raw(raw, numbering).expect("rule 11 has been judged");
+    let set = FLAGS.iter().filter(|(flag, _)| flags.contains(*flag));
     let names: Vec<&str> = set.map(|(_, name)| *name).collect();
     match names.as_slice() {
-        [] => format!("flags {flags} (none)"),
-        names => format!("flags {flags} ({})", names.join(", ")),
+        [] => format!("flags {raw} (none)"),
+        names => format!("flags {raw} ({})", names.join(", ")),
     }
 }
 
 #[cfg(test)]
 mod tests {
     use super::{bytes, flags};
+    use icon_cache::Numbering::{Freedesktop, Gtk};
 
     #[test]
     fn plain_text_stays() {
@@ -97,8 +100,13 @@ mod tests {
 
     #[test]
     fn flags_have_names() {
-        assert_eq!(flags(0), "flags 0 (none)");
-        assert_eq!(flags(5), "flags 5 (bitmap suffix, SVG suffix)");
-        assert_eq!(flags(10), "flags 10 (XPM suffix, icon file)");
+        let both = "flags 5 (bitmap suffix, SVG suffix)";
+        assert_eq!(flags(5, Freedesktop), both);
+        assert_eq!(flags(5, Gtk), "flags 5 (bitmap suffix, XPM suffix)");
+        assert_eq!(flags(10, Freedesktop), "flags 10 (XPM suffix, icon file)");
+        assert_eq!(flags(10, Gtk), "flags 10 (SVG suffix, icon file)");
+        for numbering in [Freedesktop, Gtk] {
+            assert_eq!(flags(0, numbering), "flags 0 (none)");
+        }
     }
 }
