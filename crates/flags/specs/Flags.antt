@@ -6,24 +6,26 @@ use lib.Dec.{leb}
 use Rattle.format.specs.Fault.{given, ifKept}
 use Rattle.flags.specs.declared.FlagsAnswer.{FlagsAnswer}
 
--- the flags, in the order of source document 000's ICON_FLAGS
+-- the flags, in the order of source document 000's ICON_FLAGS: HAS_SUFFIX_PNG, HAS_SUFFIX_XPM, HAS_SUFFIX_SVG, HAS_ICON_FILE
 pub data Flag : Type 0 where
   bitmap : Flag
   xpm : Flag
   svg : Flag
   iconFile : Flag
 
--- document 01's numbering, which is that of the freedesktop note, and the one that GTK's generator writes
+-- document 01's numbering, which is that of the freedesktop note, and the other of request 5, which GTK's generator writes
 pub data Numbering : Type 0 where
   freedesktop : Numbering
   gtk : Numbering
 
--- at which bit a flag stands: bitmap 1, XPM 2, SVG 4, icon file 8 in the one, and XPM 1, SVG 2, bitmap 4, icon file 8 in the other
+-- at which bit a flag stands
 abbrev pub bit : Numbering → Flag → ℕ
+-- bitmap suffix 1, XPM suffix 2, SVG suffix 4, icon file 8
 bit freedesktop bitmap = 0
 bit freedesktop xpm = 1
 bit freedesktop svg = 2
 bit freedesktop iconFile = 3
+-- XPM 1, SVG 2, bitmap 4, icon file 8
 bit gtk xpm = 0
 bit gtk svg = 1
 bit gtk bitmap = 2
@@ -60,7 +62,7 @@ pub record Right (x j k : ℕ) : Type 0 where
 abbrev pub flagsIs : ℕ → ℕ → ℕ → FlagsAnswer
 flagsIs n p x = record { number = n; place = p; flags = x }
 
--- the flags x of the numbering j in the numbering k; 27 where they are not right, and the result is then 0
+-- the flags x of the numbering j in the numbering k; 27 for flags above 15 or an unknown numbering, and the result is then 0
 unfoldable pub answer : ℕ → ℕ → ℕ → FlagsAnswer
 answer x j k =
     let f = given (not (flagsRight x j k)) 27 0 in
@@ -73,7 +75,7 @@ flagsIn x k = answer x k 0
 abbrev pub flagsOut : ℕ → ℕ → FlagsAnswer
 flagsOut x k = answer x 0 k
 
--- what request 5 promises: there and back is the identity, whichever way is gone first
+-- what request 5 promises of x from 0 to 15 and a known numbering: there and back is the identity, whichever way is gone first
 pub record ThereAndBack (x k : ℕ) : Type 0 where
   pub in-out : flagsOut (flagsIn x k .flags) k ≡ flagsIs 0 0 x
   pub out-in : flagsIn (flagsOut x k .flags) k ≡ flagsIs 0 0 x

@@ -1,4 +1,5 @@
--- What follows from the definitions. What is said of the flags 0 to 15 is computed at each of them.
+-- What follows from the definitions: the same flags are set in either numbering, so there and back is the identity. What holds of the numbers 0 to 15
+-- alone is computed at each of them (`agree`).
 use Prim.Native.Nat.{ℕ, zero, suc, _+_, _≤_, _<_}
 use mathlib.Core.Path.{_≡_, refl, ap}
 use mathlib.Core.List.{List}
@@ -11,7 +12,7 @@ use Rattle.format.specs.Number.{be}
 use Rattle.format.specs.Fault.{given}
 use Rattle.format.specs.Header.{directories}
 use Rattle.format.specs.Record.{indexRight, imageRight}
-use Rattle.flags.specs.Flags.{Numbering, freedesktop, gtk, renumbered, numbering, known, flagsRight, Right, flagsIs, answer, flagsIn, ThereAndBack}
+use Rattle.flags.specs.Flags.{Flag, bitmap, xpm, svg, iconFile, Numbering, freedesktop, gtk, isSet, renumbered, numbering, known, flagsRight, Right, flagsIs, answer, flagsIn, ThereAndBack}
 
 -- two functions agree on each number below n, as a test that antt computes
 abbrev pub agreeBelow : ℕ → (ℕ → ℕ) → (ℕ → ℕ) → Bool
@@ -33,16 +34,23 @@ same-numbering n x l = agree 16 (renumbered n n) (λ y. y) (computed n) x (omega
     computed freedesktop = refl
     computed gtk = refl
 
+-- each flag is set in the result exactly if it was set before
+pub same-flags : (n m : Numbering) (x : ℕ) (f : Flag) → isSet m (renumbered n m x) f ≡ isSet n x f
+unfolding renumbered
+same-flags n freedesktop x bitmap = omega arith
+same-flags n freedesktop x xpm = omega arith
+same-flags n freedesktop x svg = omega arith
+same-flags n freedesktop x iconFile = omega arith
+same-flags n gtk x bitmap = omega arith
+same-flags n gtk x xpm = omega arith
+same-flags n gtk x svg = omega arith
+same-flags n gtk x iconFile = omega arith
+
 -- there and back is the identity, over any two numberings
 pub renumbered-back : (n m : Numbering) (x : ℕ) → x ≤ 15 → renumbered m n (renumbered n m x) ≡ x
 unfolding renumbered
-renumbered-back n m x l = agree 16 (λ y. renumbered m n (renumbered n m y)) (λ y. y) (computed n m) x (omega arith)
-  where
-    computed : (n m : Numbering) → agreeBelow 16 (λ y. renumbered m n (renumbered n m y)) (λ y. y) ≡ true
-    computed freedesktop freedesktop = refl
-    computed freedesktop gtk = refl
-    computed gtk freedesktop = refl
-    computed gtk gtk = refl
+renumbered-back n m x small =
+    rw (same-flags n m x bitmap, same-flags n m x xpm, same-flags n m x svg, same-flags n m x iconFile) (same-numbering n x small)
 
 -- whatever the number, no more than the four flags is left of it
 pub renumbered-small : (n m : Numbering) (x : ℕ) → renumbered n m x ≤ 15
