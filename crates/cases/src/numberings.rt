@@ -1,4 +1,4 @@
-// The flags of an image in both numberings: into document 01's, and back.
+// Both calls for flags: 0 to 15 in both numberings, and what is refused.
 use crate::answers;
 use flags::FlagsAnswer;
 

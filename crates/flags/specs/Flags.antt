@@ -1,5 +1,5 @@
 -- The flags of an image in two numberings, and what the calls answer that turn one into the other.
-use Prim.Native.Nat.{ℕ, zero, suc, _+_, _*_, _/_, _%_, _^_, _≤_}
+use Prim.Native.Nat.{ℕ, zero, suc, _+_, _*_, _/_, _%_, _^_}
 use mathlib.Core.Path.{_≡_}
 use mathlib.Core.Bool.{Bool, not, _&&_}
 use lib.Dec.{leb}
@@ -31,14 +31,14 @@ bit gtk svg = 1
 bit gtk bitmap = 2
 bit gtk iconFile = 3
 
--- 1 if the flag is set in x, and else 0
-abbrev pub isSet : Numbering → ℕ → Flag → ℕ
-isSet n x f = x / 2 ^ bit n f % 2
+-- the flag's bit in x: 1 if it is set, and else 0
+abbrev pub flagBit : Numbering → ℕ → Flag → ℕ
+flagBit n x f = x / 2 ^ bit n f % 2
 
 -- the number that has in the numbering m the flags that x has in the numbering n
 unfoldable pub renumbered : Numbering → Numbering → ℕ → ℕ
 renumbered n m x =
-    let moved : Flag → ℕ = λ f. isSet n x f * 2 ^ bit m f in
+    let moved : Flag → ℕ = λ f. flagBit n x f * 2 ^ bit m f in
     moved bitmap + moved xpm + moved svg + moved iconFile
 
 -- the numbering that a caller names: 0 is document 01's and 1 the other; a larger number is unknown, and refused
@@ -51,13 +51,7 @@ known k = leb k 1
 
 -- the flags x are 0 to 15, and both numberings are known
 abbrev pub flagsRight : ℕ → ℕ → ℕ → Bool
-flagsRight x j k = leb x 15 && (known j && known k)
-
--- the same as facts
-pub record Right (x j k : ℕ) : Type 0 where
-  pub flags : x ≤ 15
-  pub from : j ≤ 1
-  pub to : k ≤ 1
+flagsRight x j k = leb x 15 && known j && known k
 
 abbrev pub flagsIs : ℕ → ℕ → ℕ → FlagsAnswer
 flagsIs n p x = record { number = n; place = p; flags = x }

@@ -12,7 +12,7 @@ use Rattle.format.specs.Number.{be}
 use Rattle.format.specs.Fault.{given}
 use Rattle.format.specs.Header.{directories}
 use Rattle.format.specs.Record.{indexRight, imageRight}
-use Rattle.flags.specs.Flags.{Flag, bitmap, xpm, svg, iconFile, Numbering, freedesktop, gtk, isSet, renumbered, numbering, known, flagsRight, Right, flagsIs, answer, flagsIn, ThereAndBack}
+use Rattle.flags.specs.Flags.{Flag, bitmap, xpm, svg, iconFile, Numbering, freedesktop, gtk, flagBit, renumbered, numbering, known, flagsRight, flagsIs, answer, flagsIn, ThereAndBack}
 
 -- two functions agree on each number below n, as a test that antt computes
 abbrev pub agreeBelow : ℕ → (ℕ → ℕ) → (ℕ → ℕ) → Bool
@@ -35,7 +35,7 @@ same-numbering n x l = agree 16 (renumbered n n) (λ y. y) (computed n) x (omega
     computed gtk = refl
 
 -- each flag is set in the result exactly if it was set before
-pub same-flags : (n m : Numbering) (x : ℕ) (f : Flag) → isSet m (renumbered n m x) f ≡ isSet n x f
+pub same-flags : (n m : Numbering) (x : ℕ) (f : Flag) → flagBit m (renumbered n m x) f ≡ flagBit n x f
 unfolding renumbered
 same-flags n freedesktop x bitmap = omega arith
 same-flags n freedesktop x xpm = omega arith
@@ -58,16 +58,16 @@ unfolding renumbered
 renumbered-small n freedesktop x = omega arith
 renumbered-small n gtk x = omega arith
 
-pub right-facts : (x j k : ℕ) → flagsRight x j k ≡ true → Right x j k
+pub right-facts : (x j k : ℕ) → flagsRight x j k ≡ true → (x ≤ 15) × (j ≤ 1) × (k ≤ 1)
 right-facts x j k e =
-    let parts = and-eq-true-iff (leb x 15) (known j && known k) .0 e in
-    let numberings = and-eq-true-iff (known j) (known k) .0 (parts .1) in
-    record { flags = leb-true x 15 (parts .0); from = leb-true j 1 (numberings .0); to = leb-true k 1 (numberings .1) }
+    let parts = and-eq-true-iff (leb x 15 && known j) (known k) .0 e in
+    let first-two = and-eq-true-iff (leb x 15) (known j) .0 (parts .0) in
+    (leb-true x 15 (first-two .0), leb-true j 1 (first-two .1), leb-true k 1 (parts .1))
 
 -- the two answers
-pub answer-right : (x j k : ℕ) → Right x j k → answer x j k ≡ flagsIs 0 0 (renumbered (numbering j) (numbering k) x)
+pub answer-right : (x j k : ℕ) → x ≤ 15 → j ≤ 1 → k ≤ 1 → answer x j k ≡ flagsIs 0 0 (renumbered (numbering j) (numbering k) x)
 unfolding answer
-answer-right x j k r = rw (le-leb x 15 (r .flags), le-leb j 1 (r .from), le-leb k 1 (r .to))
+answer-right x j k small from to = rw (le-leb x 15 small, le-leb j 1 from, le-leb k 1 to)
 
 pub answer-wrong : (x j k : ℕ) → flagsRight x j k ≡ false → answer x j k ≡ flagsIs 27 0 0
 unfolding answer
@@ -82,22 +82,20 @@ no-place x j k = ap (λ p. flagsIs (answer x j k .number) p (answer x j k .flags
     none true = refl
     none false = refl
 
-answer-back : (x j k : ℕ) → Right x j k → answer (answer x j k .flags) k j ≡ flagsIs 0 0 x
-answer-back x j k r =
-    let y = renumbered (numbering j) (numbering k) x in
-    let turned : Right y k j = record { flags = renumbered-small (numbering j) (numbering k) x; from = r .to; to = r .from } in
-    rw (answer-right x j k r, answer-right y k j turned) (ap (flagsIs 0 0) (renumbered-back (numbering j) (numbering k) x (r .flags)))
+answer-back : (x j k : ℕ) → x ≤ 15 → j ≤ 1 → k ≤ 1 → answer (answer x j k .flags) k j ≡ flagsIs 0 0 x
+answer-back x j k small from to =
+    let n = numbering j in
+    let m = numbering k in
+    rw (answer-right x j k small from to, answer-right (renumbered n m x) k j (renumbered-small n m x) to from)
+    (ap (flagsIs 0 0) (renumbered-back n m x small))
 
 pub there-and-back : (x k : ℕ) → x ≤ 15 → k ≤ 1 → ThereAndBack x k
 there-and-back x k small low =
-    record {
-      in-out = answer-back x k 0 (record { flags = small; from = low; to = omega arith });
-      out-in = answer-back x 0 k (record { flags = small; from = omega arith; to = low });
-    }
+    record { in-out = answer-back x k 0 small low (omega arith); out-in = answer-back x 0 k small (omega arith) low }
 
 -- the flags of an image that keeps rule 11 are refused in no known numbering
 pub image-taken : (s : List ℕ) (p k : ℕ) → imageRight s p ≡ true → k ≤ 1 → flagsIn (be 2 s (p + 2)) k .number ≡ 0
 image-taken s p k e low =
     let x = be 2 s (p + 2) in
     let small = leb-true x 15 (and-eq-true-iff (indexRight (directories s) (be 2 s p)) (leb x 15) .0 e .1) in
-    rw (answer-right x k 0 (record { flags = small; from = low; to = omega arith }))
+    rw (answer-right x k 0 small low (omega arith))

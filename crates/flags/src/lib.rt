@@ -1,10 +1,10 @@
 // The flags of an image in two numberings: into document 01's numbering, and back.
 ghost use mathlib.Core.Path.{_≡_};
 ghost use Prim.Native.Nat.{_≤_};
-ghost use Rattle.flags.specs.Flags.{freedesktop, gtk, numbering, flagsRight, Right, flagsIn, flagsOut};
+ghost use Rattle.flags.specs.Flags.{freedesktop, gtk, numbering, flagsRight, flagsIn, flagsOut};
 ghost use Rattle.flags.specs.Flags as definition;
 
-// With number 0 the flags in the numbering asked for, with 27 none. The place is always 0.
+// With number 0 the flags in the numbering asked for; with 27 they are 0. The place is always 0.
 pub struct FlagsAnswer {
     pub number: u32,
     pub place: usize,
@@ -15,10 +15,7 @@ pub struct FlagsAnswer {
 fn right(flags: u16, from: u32, to: u32) -> bool
     ensures { λ r. ⌜ r ≡ flagsRight flags from to ⌝ }
 {
-    if 15 < flags {
-        return false;
-    }
-    from <= 1 && to <= 1
+    flags <= 15 && from <= 1 && to <= 1
 }
 
 // From numbering 1 to 0: XPM and SVG move up by a bit, bitmap moves below them, icon file stays.
@@ -39,7 +36,7 @@ fn to_gtk(flags: u16) -> u16
 
 // The flags of the numbering `from` in the numbering `to`.
 fn renumbered(flags: u16, from: u32, to: u32) -> u16
-    requires { ⌜ Right flags from to ⌝ }
+    requires { ⌜ (flags ≤ 15) × (from ≤ 1) × (to ≤ 1) ⌝ }
     ensures { λ r. ⌜ r ≡ definition.renumbered (numbering from) (numbering to) flags ⌝ }
 {
     if from == to {

@@ -1,5 +1,5 @@
 // The public calls for C: bindings/c/icon_cache.h declares them. Each hands on the library's answer whole, the number as its result and the
-// rest through the pointers; but the path call leaves out the place, which `icon_cache_directory` gives, and the calls for flags do, where it is
+// rest through the pointers; but the path call leaves out the place, which `icon_cache_directory` gives, and so do the calls for flags, where it is
 // always 0.
 ghost use mathlib.Core.Path.{_≡_};
 ghost use lib.ListN.{length};

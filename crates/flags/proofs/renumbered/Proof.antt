@@ -13,7 +13,7 @@ from-gtk-requires : tie.Need-from-gtk-requires
 from-gtk-requires c κs = search needs
 
 returns : tie.Need-returns
-returns c = rw (c .if1 .taken) (sym (same-numbering _ _ (c .before .pre .flags)))
+returns c = rw (c .if1 .taken) (sym (same-numbering _ _ (c .before .pre .0)))
 
 returns-2 : tie.Need-returns-2
 returns-2 c =

@@ -1,21 +1,24 @@
--- `flags::right` meets its contract: at each return the tests on the way settle what the definition asks.
+-- `flags::right` meets its contract: where the ways of the first two tests meet, their flag is what the definition asks first.
+use mathlib.Core.Path.{_≡_, sym, _∙_}
+use mathlib.Core.Bool.{_&&_}
+use mathlib.Core.Logic.{⊎-elim}
 use native.Mathlib.Omega.{arith}
 use borrow.Author.Tests.{le-leb, lt-leb}
+use lib.Dec.{leb}
+use Rattle.flags.specs.Flags.{known}
 use Rattle.flags.proofs.right.Statement.{statement}
 use Rattle.flags.proofs.right.Tie as tie
 
+first-two : (c : tie.Joined1) → let a = c .before .args in c .if1 .if2 ≡ (leb (a .flags) 15 && known (a .from))
+first-two c =
+    let x = c .before .args .flags in
+    ⊎-elim (λ w. w .1 ∙ rw (le-leb x 15 (omega arith))) (λ w. w .1 ∙ rw (lt-leb x 15 (omega arith))) (c .if1 .came)
+
 returns : tie.Need-returns
-returns c = rw (lt-leb (c .before .args .flags) 15 (omega arith))
+returns c = rw (sym (first-two (c .before)) ∙ c .if2 .taken)
 
 returns-2 : tie.Need-returns-2
-returns-2 c =
-    let a = c .before .before .args in
-    rw (le-leb (a .flags) 15 (omega arith), le-leb (a .from) 1 (omega arith))
-
-returns-3 : tie.Need-returns-3
-returns-3 c =
-    let a = c .before .before .args in
-    rw (le-leb (a .flags) 15 (omega arith), lt-leb (a .from) 1 (omega arith))
+returns-2 c = c .if2 .left ∙ rw (sym (first-two (c .before)) ∙ c .if2 .left)
 
 pub right-spec : {M : Type 1} → statement M
-right-spec = tie.close (tie.spec returns returns-2 returns-3)
+right-spec = tie.close (tie.spec returns returns-2)

@@ -1,4 +1,4 @@
--- `cases::numberings::all_allowed` is safe and ends: one more of the flags each turn.
+-- `cases::numberings::all_allowed` is safe and ends: one sum of flags each turn.
 -- Assumes nothing.
 use Prim.Native.Nat.{_-_}
 use borrow.Author.Needs.{needs}
