@@ -1,4 +1,4 @@
-/* Checks a cache, prints the images of one icon, each with its directory, and two short pages of the icons: example CACHE NAME */
+/* Checks a cache, prints the images of one icon, each with its directory and flags, and two short pages of the icons: example CACHE NAME */
 #include "icon_cache.h"
 
 #include <errno.h>
@@ -61,6 +61,9 @@ static void print_directory(size_t index)
 static void print_names(uint16_t flags)
 {
     static const char *const names[] = {"bitmap", "XPM", "SVG", "icon file"};
+    if (flags == 0) {
+        printf(" none");
+    }
     for (int bit = 0; bit < 4; bit++) {
         if (flags >> bit & 1) {
             printf(" %s", names[bit]);

@@ -51,14 +51,11 @@ uint32_t icon_cache_check(const uint8_t *cache, size_t cache_len,
 
 /*
  * Looks for the icon `name`. With 0, two words for each of the *images images stand at the front of `words`: the directory index times
- * 65,536 plus the flags (bitmap suffix 1, XPM suffix 2, SVG suffix 4, icon file 8), then the offset of the image data, and the words
- * beyond are as they were. With any other number all words are as they were. With 14, *images says how many images there are: lend
+ * 65,536 plus the flags as they stand in the cache (icon_cache_flags_in tells which they are), then the offset of the image data, and the
+ * words beyond are as they were. With any other number all words are as they were. With 14, *images says how many images there are: lend
  * 2 * *images words. With any number but 0 and 14, *images is 0.
  *
  * Names are compared byte for byte: two ways to write an accented letter in Unicode are two names.
- *
- * The flags are the sum that stands in the cache. The layout's document numbers them as above; some generators, GTK's among them, number them in
- * another way under the same version, and then icon_cache_flags_in turns them into these.
  *
  * An endless chain costs even more time than in the check, tens of seconds at 16 MiB and less than a second at 256 KiB: where somebody
  * waits, do it in a thread of its own or set a smaller limit of length.
@@ -100,14 +97,14 @@ uint32_t icon_cache_list(const uint8_t *cache, size_t cache_len,
                          size_t *bucket, size_t *count, size_t *place, size_t *record);
 
 /*
- * Flags are numbered in two ways under the same version, and a cache doesn't say in which:
+ * The flags of an image are a sum that says which files it has. Two numberings are written under the same version, and a cache doesn't say which:
  *
  *    0  bitmap suffix 1, XPM suffix 2, SVG suffix 4, icon file 8: the layout's document, and generators that follow it
  *    1  XPM suffix 1, SVG suffix 2, bitmap suffix 4, icon file 8: GTK's gtk-update-icon-cache
  *
  * icon_cache_flags_in turns raw flags of `numbering`, as a lookup gives them, into those of numbering 0, and icon_cache_flags_out turns them back:
- * one after the other, in either order, they give the flags that were handed in. With 27, for flags above 15 or another numbering, the result is 0.
- * No lookup gives flags above 15. There is no pointer for the place, since it would always be 0.
+ * one after the other with the same numbering, in either order, they give back any flags from 0 to 15. With 27, for flags above 15 or another
+ * numbering, the result is 0. No lookup gives flags above 15. There is no pointer for the place, since it would always be 0.
  */
 uint32_t icon_cache_flags_in(uint16_t raw, uint32_t numbering, uint16_t *flags);
 uint32_t icon_cache_flags_out(uint16_t flags, uint32_t numbering, uint16_t *raw);

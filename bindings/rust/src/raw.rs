@@ -298,8 +298,8 @@ pub fn flags_in(raw: u16, numbering: u32) -> Renumbered {
     Renumbered { number, flags }
 }
 
-/// Turns flags of numbering 0 into raw flags of a numbering, the other way round
-/// than [`flags_in`]; what that refuses is refused.
+/// Turns flags of numbering 0 into raw flags of a numbering: the way back of
+/// [`flags_in`], which refuses the same.
 #[inline]
 pub fn flags_out(flags: u16, numbering: u32) -> Renumbered {
     let mut raw = UNWRITTEN_FLAGS;

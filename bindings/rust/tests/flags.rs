@@ -1,8 +1,8 @@
 //! The flags of an image in two numberings: all flags there are, compared with
-//! the names that request 5 gives them, and caches that GTK's generator made.
+//! the names that the papers give them, and real caches by GTK's numbering.
 
 use icon_cache::raw::{flags_in, flags_out, Renumbered};
-use icon_cache::{directory, lookup, records, Flags, Numbering, Refusal};
+use icon_cache::{directory, lookup, records, Flags, Image, Numbering, Refusal};
 
 /// The flags from the lowest bit up, as document 01 and request 5 name them.
 const DOCUMENT_01: [&str; 4] = ["bitmap", "XPM", "SVG", "icon file"];
@@ -51,11 +51,12 @@ fn all_flags_in_some_numberings() {
     for numbering in NUMBERINGS {
         let (ours, theirs) = (names_of(0), names_of(numbering));
         for flags in 0..=u16::MAX {
-            let shown = format!("flags {flags}, numbering {numbering}");
-            let expected = renumbered(flags, theirs, ours);
-            assert_eq!(flags_in(flags, numbering), expected, "in: {shown}");
-            let expected = renumbered(flags, ours, theirs);
-            assert_eq!(flags_out(flags, numbering), expected, "out: {shown}");
+            let answers = (flags_in(flags, numbering), flags_out(flags, numbering));
+            let expected = (
+                renumbered(flags, theirs, ours),
+                renumbered(flags, ours, theirs),
+            );
+            assert_eq!(answers, expected, "flags {flags}, numbering {numbering}");
         }
     }
 }
@@ -109,19 +110,14 @@ fn names_of_the_flags() {
     }
 }
 
-/// The flags of all images of an icon, by GTK's numbering.
-fn by_gtk(cache: &[u8], name: &[u8]) -> Vec<Flags> {
-    let images = lookup(cache, name).unwrap().images;
-    let flags = images
-        .iter()
-        .map(|image| Flags::from_raw(image.flags, Numbering::Gtk));
-    flags.collect::<Result<_, _>>().unwrap()
+fn by_gtk(image: &Image) -> Flags {
+    Flags::from_raw(image.flags, Numbering::Gtk).unwrap()
 }
 
 /// A cache that gtk-update-icon-cache 3.24.38 made of bitmap.png, drawn.xpm,
 /// vector.svg, described.png with described.icon, and twice.png with twice.xpm.
 #[test]
-fn files_of_which_gtk_made_a_cache() {
+fn suffixes_of_known_files() {
     let cache = include_bytes!("data/suffixes.cache");
     for (name, flags) in [
         ("bitmap", Flags::BITMAP_SUFFIX),
@@ -130,37 +126,38 @@ fn files_of_which_gtk_made_a_cache() {
         ("described", Flags::BITMAP_SUFFIX | Flags::ICON_FILE),
         ("twice", Flags::BITMAP_SUFFIX | Flags::XPM_SUFFIX),
     ] {
-        assert_eq!(by_gtk(cache, name.as_bytes()), [flags], "{name}");
+        let images = lookup(cache, name.as_bytes()).unwrap().images;
+        let found: Vec<Flags> = images.iter().map(by_gtk).collect();
+        assert_eq!(found, [flags], "{name}");
     }
 }
 
-/// In the caches of real themes, images of a scalable directory are SVG files and
-/// all others bitmaps; by document 01's numbering they would be something else.
+/// In the caches of real themes the images of scalable directories are SVG files,
+/// and all others are bitmaps.
 #[test]
-fn real_caches() {
-    let hicolor = files_by_directory(include_bytes!("data/hicolor.cache"));
+fn suffixes_by_directory() {
+    let hicolor = svg_files_and_bitmaps(include_bytes!("data/hicolor.cache"));
     assert_eq!(hicolor, (1, 5));
-    let tango = files_by_directory(include_bytes!("data/Tango.cache"));
-    assert_eq!(tango, (846, 3398));
+    let tango = svg_files_and_bitmaps(include_bytes!("data/Tango.cache"));
+    assert_eq!(tango, (846, 3_398));
 }
 
-/// How many images are SVG files in a scalable directory, and how many bitmaps in
-/// another.
-fn files_by_directory(cache: &[u8]) -> (usize, usize) {
-    let (mut scalable, mut bitmaps) = (0, 0);
+/// How many images of scalable directories there are, all of them SVG files, and
+/// how many others, all of them bitmaps alone.
+fn svg_files_and_bitmaps(cache: &[u8]) -> (usize, usize) {
+    let (mut svg_files, mut bitmaps) = (0, 0);
     for record in records(cache) {
-        let name = record.unwrap().name;
-        let images = lookup(cache, name).unwrap().images;
-        for (image, flags) in images.iter().zip(by_gtk(cache, name)) {
+        let images = lookup(cache, record.unwrap().name).unwrap().images;
+        for image in &images {
             let path = directory(cache, image.directory.into()).unwrap();
             if path.starts_with(b"scalable/") {
-                assert!(flags.contains(Flags::SVG_SUFFIX));
-                scalable += 1;
+                assert!(by_gtk(image).contains(Flags::SVG_SUFFIX));
+                svg_files += 1;
             } else {
-                assert_eq!(flags, Flags::BITMAP_SUFFIX);
+                assert_eq!(by_gtk(image), Flags::BITMAP_SUFFIX);
                 bitmaps += 1;
             }
         }
     }
-    (scalable, bitmaps)
+    (svg_files, bitmaps)
 }

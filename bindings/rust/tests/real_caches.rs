@@ -21,6 +21,12 @@ fn tango() {
     walk(include_bytes!("data/Tango.cache"), 849, 48);
 }
 
+/// Made by gtk-update-icon-cache of a file with each suffix.
+#[test]
+fn suffixes() {
+    walk(include_bytes!("data/suffixes.cache"), 5, 2);
+}
+
 fn walk(cache: &[u8], icons: usize, directories: usize) {
     let expected = Checked {
         directories,

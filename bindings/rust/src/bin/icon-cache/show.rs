@@ -100,8 +100,7 @@ mod tests {
 
     #[test]
     fn flags_have_names() {
-        let both = "flags 5 (bitmap suffix, SVG suffix)";
-        assert_eq!(flags(5, Freedesktop), both);
+        assert_eq!(flags(5, Freedesktop), "flags 5 (bitmap suffix, SVG suffix)");
         assert_eq!(flags(5, Gtk), "flags 5 (bitmap suffix, XPM suffix)");
         assert_eq!(flags(10, Freedesktop), "flags 10 (XPM suffix, icon file)");
         assert_eq!(flags(10, Gtk), "flags 10 (SVG suffix, icon file)");
