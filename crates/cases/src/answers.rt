@@ -71,7 +71,8 @@ fn lookup_into(case: &[u8], cache: &[u8], name: &[u8], words: &mut [u32]) {
     end();
 }
 
-// A lookup with `room` words lent, at most 6. Each holds 7 beforehand, so that an untouched one shows.
+// A lookup with `room` words lent, at most 6. Each holds 7 beforehand, so that an untouched one
+// shows.
 pub fn lookup(case: &[u8], cache: &[u8], name: &[u8], room: usize) {
     let mut words = [7u32; 6];
     lookup_into(case, cache, name, front(&mut words, room));

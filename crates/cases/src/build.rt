@@ -1,5 +1,5 @@
-// Writes the parts of a cache into a buffer. A byte past the buffer's end is left out; the stored output would show that it is missing.
-// Offsets are bounded only so that no sum wraps.
+// Writes the parts of a cache into a buffer. A byte past the buffer's end is left out; the stored
+// output would show that it is missing. Offsets are bounded only so that no sum wraps.
 ghost use Prim.Native.Nat.{_<_, _^_};
 
 // No further record.
@@ -72,7 +72,8 @@ pub fn put_image(cache: &mut [u8], at: usize, index: u16, flags: u16, data: u32)
     put_u32(cache, at + 4, data);
 }
 
-// The first 24 bytes of most caches here: one bucket, at 12, whose field is at 16, and no directories, at 20.
+// The first 24 bytes of most caches here: one bucket, at 12, whose field is at 16, and no
+// directories, at 20.
 pub fn start(cache: &mut [u8], field: u32) {
     put_header(cache, 12, 20);
     put_u32(cache, 12, 1);

@@ -9,7 +9,8 @@ fn of_the_farm(cache: &[u8]) {
     answers::directory(b"farm cache, directory 2", cache, 2);
 }
 
-// The field of directory 1 is at 104, and its path at 111. At 110 stands the zero byte of the path before it.
+// The field of directory 1 is at 104, and its path at 111. At 110 stands the zero byte of the path
+// before it.
 fn broken() {
     answers::check(b"an empty path", &farm::with_u32(104, 110));
     answers::directory(b"an empty path", &farm::with_u32(104, 110), 1);

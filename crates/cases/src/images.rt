@@ -5,7 +5,8 @@ use crate::build;
 use crate::farm;
 use std::num::wrapping_add_usize;
 
-// One icon "cow" with many images and no directories: its record at 24, its name at 36 and its image list at 40.
+// One icon "cow" with many images and no directories: its record at 24, its name at 36 and its
+// image list at 40.
 fn one_icon(cache: &mut [u8], images: u32)
     requires { ⌜ images ≤ 1025 ⌝ }
 {
@@ -92,7 +93,8 @@ fn of_1025() {
     answers::lookup(b"1025 images", &cache, b"cow", 6);
 }
 
-// In the farm cache cow's IMAGE_LIST_OFFSET is at 60, hen's and oat's one image at 68, and cow's second image at 88.
+// In the farm cache cow's IMAGE_LIST_OFFSET is at 60, hen's and oat's one image at 68, and cow's
+// second image at 88.
 fn not_allowed() {
     answers::check(b"an image list past the end", &farm::with_u32(60, 123));
     answers::check(b"flags 15", &farm::with_u16(70, 15));

@@ -1,5 +1,6 @@
-// Runs the cases of documents 01 and 02 and prints a line for each. The stored output was written from them, so a run that differs is a fault of
-// the code. Each file of src/ holds the cases on one subject; answers.rt prints, and build.rt and farm.rt make the caches.
+// Runs the cases of documents 01 and 02 and prints a line for each. The stored output was written
+// from them, so a run that differs is a fault of the code. Each file of src/ holds the cases on one
+// subject; answers.rt prints, and build.rt and farm.rt make the caches.
 mod answers;
 mod build;
 mod directories;

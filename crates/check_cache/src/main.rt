@@ -79,8 +79,8 @@ fn print(line: Line) {
     }
 }
 
-// One byte more than the largest cache is read, so that a larger one shows. Where a read fails, what came before it is judged as if the
-// input ended there.
+// One byte more than the largest cache is read, so that a larger one shows. Where a read fails,
+// what came before it is judged as if the input ended there.
 fn main() {
     let mut input = [0u8; 65537];
     let n = io::read_full(STDIN_FILENO, &mut input);

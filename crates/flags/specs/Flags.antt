@@ -1,19 +1,21 @@
 -- The flags of an image in two numberings, and what the calls answer that turn one into the other.
 use Prim.Native.Nat.{ℕ, zero, suc, _+_, _*_, _/_, _%_, _^_}
 use mathlib.Core.Path.{_≡_}
-use mathlib.Core.Bool.{Bool, not, _&&_}
+use mathlib.Core.Bool.{Bool, _&&_}
 use lib.Dec.{leb}
-use Rattle.format.specs.Fault.{given, ifKept}
+use Rattle.format.specs.Fault.{unless, ifKept}
 use Rattle.flags.specs.declared.FlagsAnswer.{FlagsAnswer}
 
--- the flags, in the order of source document 000's ICON_FLAGS: HAS_SUFFIX_PNG, HAS_SUFFIX_XPM, HAS_SUFFIX_SVG, HAS_ICON_FILE
+-- the flags, in the order of source document 000's ICON_FLAGS: HAS_SUFFIX_PNG, HAS_SUFFIX_XPM,
+-- HAS_SUFFIX_SVG, HAS_ICON_FILE
 pub data Flag : Type 0 where
   bitmap : Flag
   xpm : Flag
   svg : Flag
   iconFile : Flag
 
--- document 01's numbering, which is that of the freedesktop note, and the other of request 5, which GTK's generator writes
+-- document 01's numbering, which is that of the freedesktop note, and the other of request 5, which
+-- GTK's generator writes
 pub data Numbering : Type 0 where
   freedesktop : Numbering
   gtk : Numbering
@@ -41,7 +43,8 @@ renumbered n m x =
     let moved : Flag → ℕ = λ f. flagBit n x f * 2 ^ bit m f in
     moved bitmap + moved xpm + moved svg + moved iconFile
 
--- the numbering that a caller names: 0 is document 01's and 1 the other; a larger number is unknown, and refused
+-- the numbering that a caller names: 0 is document 01's and 1 the other; a larger number is
+-- unknown, and refused
 abbrev pub numbering : ℕ → Numbering
 numbering zero = freedesktop
 numbering (suc k) = gtk
@@ -56,10 +59,11 @@ flagsRight x j k = leb x 15 && known j && known k
 abbrev pub flagsIs : ℕ → ℕ → ℕ → FlagsAnswer
 flagsIs n p x = record { number = n; place = p; flags = x }
 
--- the flags x of the numbering j in the numbering k; 27 for flags above 15 or an unknown numbering, and the result is then 0
+-- the flags x of the numbering j in the numbering k; 27 for flags above 15 or an unknown numbering,
+-- and the result is then 0
 unfoldable pub answer : ℕ → ℕ → ℕ → FlagsAnswer
 answer x j k =
-    let f = given (not (flagsRight x j k)) 27 0 in
+    let f = unless (flagsRight x j k) 27 0 in
     flagsIs (f .number) (f .place) (ifKept f (renumbered (numbering j) (numbering k) x) 0)
 
 -- the two calls: raw flags of the numbering k in document 01's, and back
@@ -69,7 +73,8 @@ flagsIn x k = answer x k 0
 abbrev pub flagsOut : ℕ → ℕ → FlagsAnswer
 flagsOut x k = answer x 0 k
 
--- what request 5 promises of x from 0 to 15 and a known numbering: there and back is the identity, whichever way is gone first
+-- what request 5 promises of x from 0 to 15 and a known numbering: there and back is the identity,
+-- whichever way is gone first
 pub record ThereAndBack (x k : ℕ) : Type 0 where
   pub in-out : flagsOut (flagsIn x k .flags) k ≡ flagsIs 0 0 x
   pub out-in : flagsIn (flagsOut x k .flags) k ≡ flagsIs 0 0 x

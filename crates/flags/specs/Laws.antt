@@ -1,15 +1,15 @@
--- What follows from the definitions: the same flags are set in either numbering, so there and back is the identity. What holds of the numbers 0 to 15
--- alone is computed at each of them (`agree`).
+-- What follows from the definitions: the same flags are set in either numbering, so there and back
+-- is the identity. What holds of the numbers 0 to 15 alone is computed at each of them (`agree`).
 use Prim.Native.Nat.{ℕ, zero, suc, _+_, _≤_, _<_}
 use mathlib.Core.Path.{_≡_, refl, ap}
 use mathlib.Core.List.{List}
-use mathlib.Core.Bool.{Bool, true, false, not, _&&_, and-eq-true-iff}
+use mathlib.Core.Bool.{Bool, true, false, _&&_, and-eq-true-iff}
 use native.Mathlib.Omega.{arith}
 use borrow.Author.Count.{below-more}
 use borrow.Author.Tests.{le-leb, leb-true, eqb-true}
 use lib.Dec.{eqb, leb}
 use Rattle.format.specs.Number.{be}
-use Rattle.format.specs.Fault.{given}
+use Rattle.format.specs.Fault.{unless}
 use Rattle.format.specs.Header.{directories}
 use Rattle.format.specs.Record.{indexRight, imageRight}
 use Rattle.flags.specs.Flags.{Flag, bitmap, xpm, svg, iconFile, Numbering, freedesktop, gtk, flagBit, renumbered, numbering, known, flagsRight, flagsIs, answer, flagsIn, ThereAndBack}
@@ -78,7 +78,7 @@ pub no-place : (x j k : ℕ) → flagsIs (answer x j k .number) 0 (answer x j k 
 unfolding answer
 no-place x j k = ap (λ p. flagsIs (answer x j k .number) p (answer x j k .flags)) (none (flagsRight x j k))
   where
-    none : (t : Bool) → 0 ≡ given (not t) 27 0 .place
+    none : (t : Bool) → 0 ≡ unless t 27 0 .place
     none true = refl
     none false = refl
 

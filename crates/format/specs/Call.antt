@@ -1,87 +1,93 @@
 -- What each call answers, and what it leaves in the lent words.
-use Prim.Native.Nat.{ℕ, zero, suc, _+_, _*_}
-use mathlib.Core.List.{List, [], _++_}
-use mathlib.Core.Bool.{not}
+use Prim.Native.Nat.{ℕ, zero, suc, _+_, _-_, _*_}
+use mathlib.Core.List.{List, [], _∷_, _++_}
 use lib.ListN.{length, drop}
 use lib.Dec.{ltb, leb}
 use Rattle.format.specs.Choice.{if_then_else_}
+use Rattle.format.specs.Layout.{entriesAt}
 use Rattle.format.specs.Number.{be}
-use Rattle.format.specs.Fault.{given, _orElse_, ifKept}
-use Rattle.format.specs.Text.{allowed}
+use Rattle.format.specs.Fault.{unless, _orElse_, ifKept}
+use Rattle.format.specs.Text.{allowed, sameBytes}
 use Rattle.format.specs.Header.{headerFault, tablesFault, pathFault, pathField, pathOf, directories, buckets, bucketField}
-use Rattle.format.specs.Record.{bucketOf, imagesAt, images, imageWords}
-use Rattle.format.specs.Chain.{walkBucket}
+use Rattle.format.specs.Record.{nameOf, bucketOf, imagesAt, images, imageWords}
+use Rattle.format.specs.Chain.{chainOf, mostRecords, itself}
+use Rattle.format.specs.Answer.{accepted, refused, found, unfound, lookedUp, directoryIs, partIs}
 use Rattle.format.specs.declared.Fault.{Fault}
-use Rattle.format.specs.declared.Walk.{Walk}
-use Rattle.format.specs.declared.Ending.{Ending}
-use Rattle.format.specs.declared.Ending.the-variants.{Ended, Met, Broken, Stopped}
+use Rattle.format.specs.declared.Link.{Link}
+use Rattle.format.specs.declared.Link.the-variants.{End, Broken, Record}
 use Rattle.format.specs.declared.CheckAnswer.{CheckAnswer}
+use Rattle.format.specs.declared.Found.{Found}
 use Rattle.format.specs.declared.LookupAnswer.{LookupAnswer}
 use Rattle.format.specs.declared.DirectoryAnswer.{DirectoryAnswer}
 use Rattle.format.specs.declared.DirectoryPart.{DirectoryPart}
 
-abbrev pub checked : ℕ → ℕ → ℕ → ℕ → ℕ → CheckAnswer
-checked n p d i o = record { number = n; place = p; directories = d; icons = i; opened = o }
-
-abbrev pub lookedUp : ℕ → ℕ → ℕ → ℕ → LookupAnswer
-lookedUp n p m o = record { number = n; place = p; images = m; opened = o }
-
-abbrev pub directoryIs : ℕ → ℕ → DirectoryAnswer
-directoryIs n p = record { number = n; place = p }
-
-abbrev pub partIs : ℕ → ℕ → ℕ → ℕ → DirectoryPart
-partIs n p a l = record { number = n; place = p; start = a; length = l }
-
--- the check of n buckets from bucket k on, after o records opened before; no record is met, since none that keeps rule 8 bears the empty name
+-- the check of n buckets from bucket k on, with o records on the chains before
 unfoldable pub checkBuckets : ℕ → List ℕ → ℕ → ℕ → CheckAnswer
-checkBuckets zero s k o = checked 0 0 (directories s) o o
+checkBuckets zero s k o = accepted (directories s) o
 checkBuckets (suc n) s k o =
-    let w = walkBucket s [] k o in
-    elim (w .ending) [
-      | Ended ↦ checkBuckets n s (suc k) (w .opened)
-      | Met r ↦ checkBuckets n s (suc k) (w .opened)
-      | Broken m p ↦ checked m p 0 0 (w .opened)
-      | Stopped f ↦ checked 12 (bucketField s k) 0 0 (w .opened)
+    let c = chainOf s k (mostRecords s - o) in
+    let passed = o + length (c .records) in
+    elim (c .after) [
+      | End ↦ checkBuckets n s (suc k) passed
+      | Broken x p ↦ refused x p (passed + itself x)
+      | Record r ↦ refused 12 (bucketField s k) (passed + 1)
     ]
 
--- the check: 1 to 6 and 16, then the chains of all buckets from 0 up; with a refusal directories and icons are 0
+-- the check: 1 to 6 and 16, then the chains of all buckets from 0 up
 unfoldable pub check : List ℕ → CheckAnswer
 check s =
     let f = tablesFault s in
-    ifKept f (checkBuckets (buckets s) s 0 0) (checked (f .number) (f .place) 0 0 0)
+    ifKept f (checkBuckets (buckets s) s 0 0) (refused (f .number) (f .place) 0)
 
--- what is judged of a lookup before its walk: 13, then 1 to 5
+-- the first of the records that bears the name, with o records before them, or a if none does
+unfoldable pub firstNamed : List ℕ → List ℕ → List ℕ → ℕ → Found → Found
+firstNamed s name [] o a = a
+firstNamed s name (r ∷ rs) o a = if sameBytes (nameOf s r) name then found r (o + 1) else firstNamed s name rs (o + 1) a
+
+-- none of o records on a chain does: what comes after them decides; f is the bucket's field
+unfoldable pub unnamed : ℕ → Link → ℕ → Found
+unnamed f End o = unfound 30 0 o
+unnamed f (Broken x p) o = unfound x p (o + itself x)
+unnamed f (Record r) o = unfound 12 f (o + 1)
+
+-- the search along bucket k's chain
+unfoldable pub searchBucket : List ℕ → List ℕ → ℕ → Found
+searchBucket s name k =
+    let c = chainOf s k (mostRecords s) in
+    firstNamed s name (c .records) 0 (unnamed (bucketField s k) (c .after) (length (c .records)))
+
+-- what is judged of a name before it is looked for: 13, then 1 to 5
 unfoldable pub queryFault : List ℕ → List ℕ → Fault
-queryFault s name = given (not (allowed name)) 13 0 orElse headerFault s
+queryFault s name = unless (allowed name) 13 0 orElse headerFault s
 
--- the walk that a lookup makes
-abbrev pub lookupWalk : List ℕ → List ℕ → Walk
-lookupWalk s name = walkBucket s name (bucketOf s name) 0
+-- the record that bears the name, without its images
+unfoldable pub find : List ℕ → List ℕ → Found
+find s name =
+    let f = queryFault s name in
+    ifKept f (searchBucket s name (bucketOf s name)) (unfound (f .number) (f .place) 0)
 
--- the answer where the walk met the record r, with `room` words lent
+-- the answer where the record r was found, with `room` words lent
 unfoldable pub metAnswer : List ℕ → ℕ → ℕ → ℕ → LookupAnswer
 metAnswer s room r o =
     let m = images s r in
     if leb (2 * m) room then lookedUp 0 r m o else lookedUp 14 (imagesAt s r) m o
 
--- the answer after the walk of bucket k's chain
-unfoldable pub lookupEnds : List ℕ → ℕ → ℕ → Ending → ℕ → LookupAnswer
-lookupEnds s k room Ended o = lookedUp 30 0 0 o
-lookupEnds s k room (Met r) o = metAnswer s room r o
-lookupEnds s k room (Broken m p) o = lookedUp m p 0 o
-lookupEnds s k room (Stopped f) o = lookedUp 12 (bucketField s k) 0 o
+-- the same from what the search found
+unfoldable pub withImages : List ℕ → ℕ → Found → LookupAnswer
+withImages s room a =
+    elim (a .number) [
+      | zero ↦ metAnswer s room (a .place) (a .opened)
+      | suc x ↦ lookedUp (suc x) (a .place) 0 (a .opened)
+    ]
 
--- the lookup: 13, then 1 to 5, then the walk of the name's own bucket
+-- the lookup: the search, then the images
 unfoldable pub lookup : List ℕ → List ℕ → ℕ → LookupAnswer
-lookup s name room =
-    let f = queryFault s name in
-    let w = lookupWalk s name in
-    ifKept f (lookupEnds s (bucketOf s name) room (w .ending) (w .opened)) (lookedUp (f .number) (f .place) 0 0)
+lookup s name room = withImages s room (find s name)
 
--- the lent words after an answer: with number 0 the images' words and then what stood there, else what stood there
+-- the lent words after an answer: with number 0 the images' words come first, else all stay
 unfoldable pub answerWords : List ℕ → List ℕ → LookupAnswer → List ℕ
 answerWords s words a =
-    elim (a .number) [ zero ↦ imageWords (a .images) s (imagesAt s (a .place) + 4) ++ drop (2 * (a .images)) words | suc m ↦ words ]
+    elim (a .number) [ zero ↦ imageWords (a .images) s (entriesAt (imagesAt s (a .place))) ++ drop (2 * (a .images)) words | suc m ↦ words ]
 
 -- the lent words after a lookup
 abbrev pub lookupWords : List ℕ → List ℕ → List ℕ → List ℕ
@@ -89,7 +95,7 @@ lookupWords s name words = answerWords s words (lookup s name (length words))
 
 -- what is judged of a directory index: 1 to 5, then 15, then 6 and 16 on its path
 unfoldable pub directoryFault : List ℕ → ℕ → Fault
-directoryFault s i = headerFault s orElse given (not (ltb i (directories s))) 15 0 orElse pathFault s i
+directoryFault s i = headerFault s orElse unless (ltb i (directories s)) 15 0 orElse pathFault s i
 
 -- the number call
 unfoldable pub directory : List ℕ → ℕ → DirectoryAnswer

@@ -1,4 +1,5 @@
--- The farm cache of document 01, its examples P1 to P12 as one list, and some paths of request 4 as another.
+-- The farm cache of document 01, its examples P1 to P12 as one list, and some paths of request 4 as
+-- another.
 use Prim.Native.Nat.{ℕ, _+_}
 use mathlib.Core.List.{List, [], _∷_, _++_}
 use mathlib.Core.Bool.{Bool, true, _&&_}
@@ -10,8 +11,9 @@ use Rattle.format.specs.Text.{string, text, isWhole, sameBytes, signed, 
 use Rattle.format.specs.Segments.{segments, segmentRight, allRight}
 use Rattle.format.specs.Header.{headerFault, pathFault, pathsFault, tablesFault}
 use Rattle.format.specs.Record.{imagesFault, nameFault, listFault, recordFault, imageWords}
-use Rattle.format.specs.Chain.{walk}
-use Rattle.format.specs.Call.{check, checkBuckets, checked, queryFault, lookup, lookupEnds, metAnswer, answerWords, lookupWords, lookedUp, directoryFault, directory, directoryPath, directoryIs}
+use Rattle.format.specs.Chain.{linkFault, follow, chain}
+use Rattle.format.specs.Answer.{accepted, refused, lookedUp, directoryIs}
+use Rattle.format.specs.Call.{check, checkBuckets, unnamed, firstNamed, searchBucket, queryFault, find, withImages, lookup, metAnswer, answerWords, lookupWords, directoryFault, directory, directoryPath}
 use Rattle.format.specs.declared.CheckAnswer.{CheckAnswer}
 use Rattle.format.specs.declared.LookupAnswer.{LookupAnswer}
 use Rattle.format.specs.declared.DirectoryAnswer.{DirectoryAnswer}
@@ -82,7 +84,7 @@ looped = patched 40 (0 ∷ 0 ∷ 0 ∷ 28 ∷ []) farm
 unfoldable pub examples : List Example
 examples =
     -- P1 to P7
-    checks farm (checked 0 0 2 3 3) ∷
+    checks farm (accepted 2 3) ∷
     looksUp farm cow (lent 5) (lookedUp 0 52 2 1) (1 ∷ 0 ∷ 65540 ∷ 0 ∷ 7 ∷ []) ∷
     looksUp farm oat (lent 5) (lookedUp 0 40 1 2) (1 ∷ 0 ∷ 7 ∷ 7 ∷ 7 ∷ []) ∷
     looksUp farm pig (lent 5) (lookedUp 30 0 0 1) (lent 5) ∷
@@ -90,32 +92,33 @@ examples =
     looksUp farm (97 ∷ []) (lent 5) (lookedUp 30 0 0 0) (lent 5) ∷
     looksUp farm cow (lent 3) (lookedUp 14 76 2 1) (lent 3) ∷
     -- P8
-    checks looped (checked 12 16 0 0 116) ∷
+    checks looped (refused 12 16 116) ∷
     looksUp looped oat (lent 5) (lookedUp 0 40 1 2) (1 ∷ 0 ∷ 7 ∷ 7 ∷ 7 ∷ []) ∷
     looksUp looped ewe (lent 5) (lookedUp 12 16 0 116) (lent 5) ∷
     -- P9 to P11
-    checks (patched 20 (0 ∷ 0 ∷ 0 ∷ 28 ∷ []) farm) (checked 9 32 0 0 3) ∷
-    checks (take 125 farm) (checked 8 56 0 0 3) ∷
-    checks (patched 88 (0 ∷ 2 ∷ []) farm) (checked 11 88 0 0 3) ∷
+    checks (patched 20 (0 ∷ 0 ∷ 0 ∷ 28 ∷ []) farm) (refused 9 32 3) ∷
+    checks (take 125 farm) (refused 8 56 3) ∷
+    checks (patched 88 (0 ∷ 2 ∷ []) farm) (refused 11 88 3) ∷
     -- P12
     names farm 1 (directoryIs 0 0) (54 ∷ 52 ∷ []) ∷
     names farm 2 (directoryIs 15 0) [] ∷
     []
 
--- Request 4, in the two paths of the farm cache, at 108 and 111: ".." and "6/" are refused with 16 and ".x" is good; a leading slash stays 6. 16 comes
--- straight after 6 of the same path and before the next path. Only its own directory is refused, and a lookup looks at no path.
+-- Request 4, in the two paths of the farm cache, at 108 and 111: ".." and "6/" are refused with 16
+-- and ".x" is good; a leading slash stays 6. 16 comes straight after 6 of the same path and before
+-- the next path. Only its own directory is refused, and a lookup looks at no path.
 unfoldable pub pathExamples : List Example
 pathExamples =
-    checks (patched 108 (46 ∷ 46 ∷ []) farm) (checked 16 100 0 0 0) ∷
-    checks (patched 111 (54 ∷ 47 ∷ []) farm) (checked 16 104 0 0 0) ∷
-    checks (patched 111 (46 ∷ 120 ∷ []) farm) (checked 0 0 2 3 3) ∷
-    checks (patched 108 (46 ∷ 46 ∷ 0 ∷ 47 ∷ 52 ∷ []) farm) (checked 16 100 0 0 0) ∷
-    checks (patched 108 (47 ∷ 46 ∷ 0 ∷ 46 ∷ 46 ∷ []) farm) (checked 6 100 0 0 0) ∷
+    checks (patched 108 (46 ∷ 46 ∷ []) farm) (refused 16 100 0) ∷
+    checks (patched 111 (54 ∷ 47 ∷ []) farm) (refused 16 104 0) ∷
+    checks (patched 111 (46 ∷ 120 ∷ []) farm) (accepted 2 3) ∷
+    checks (patched 108 (46 ∷ 46 ∷ 0 ∷ 47 ∷ 52 ∷ []) farm) (refused 16 100 0) ∷
+    checks (patched 108 (47 ∷ 46 ∷ 0 ∷ 46 ∷ 46 ∷ []) farm) (refused 6 100 0) ∷
     names (patched 111 (46 ∷ 46 ∷ []) farm) 0 (directoryIs 0 0) (49 ∷ 54 ∷ []) ∷
     names (patched 111 (46 ∷ 46 ∷ []) farm) 1 (directoryIs 16 104) [] ∷
     looksUp (patched 108 (46 ∷ 46 ∷ []) farm) oat (lent 5) (lookedUp 0 40 1 2) (1 ∷ 0 ∷ 7 ∷ 7 ∷ 7 ∷ []) ∷
     []
 
 examples-hold : T (all pathExamples && all examples)
-unfolding all holds examples pathExamples lent looped patched farm cow oat pig ewe sameCheck sameLookup sameDirectory check checkBuckets queryFault lookup lookupEnds metAnswer answerWords directoryFault directory directoryPath walk recordFault nameFault listFault imagesFault imageWords headerFault segments segmentRight allRight pathFault pathsFault tablesFault _orElse_ text string isWhole sameBytes signed hashFrom hashNumbers hash allowed be
+unfolding all holds examples pathExamples lent looped patched farm cow oat pig ewe sameCheck sameLookup sameDirectory check checkBuckets unnamed firstNamed searchBucket queryFault find withImages lookup metAnswer answerWords directoryFault directory directoryPath linkFault follow chain recordFault nameFault listFault imagesFault imageWords headerFault segments segmentRight allRight pathFault pathsFault tablesFault _orElse_ text string isWhole sameBytes signed hashFrom hashNumbers hash allowed be
 examples-hold = tt

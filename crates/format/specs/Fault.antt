@@ -9,10 +9,10 @@ fault n p = record { number = n; place = p }
 abbrev pub noFault : Fault
 noFault = fault 0 0
 
--- rule n is broken at p, if the test says so
-abbrev pub given : Bool → ℕ → ℕ → Fault
-given true n p = fault n p
-given false n p = noFault
+-- rule n is broken at p, unless the test holds
+abbrev pub unless : Bool → ℕ → ℕ → Fault
+unless true n p = noFault
+unless false n p = fault n p
 
 infixr 20 _orElse_
 -- the first of two judgements if it names a broken rule, else the second

@@ -1,8 +1,9 @@
--- Laws of the definitions: what the proofs of the code rest on, and that the definitions meet demand 3. A reader of the contracts
--- need not read what stands here.
+-- Laws of the definitions: what the proofs of the code rest on, and that the definitions meet
+-- demand 3. A reader of the contracts need not read what stands here.
 
 -- of each definition by itself
 pub mod Faults
+pub mod Numbers
 pub mod Reads
 pub mod Strings
 pub mod Hashes
@@ -14,15 +15,18 @@ pub mod Images
 pub mod Records
 pub mod Rules
 pub mod Directory
--- of chains, walks and the check
+-- of chains and the check
 pub mod Below
 pub mod Pigeonhole
-pub mod Links
-pub mod Apart
-pub mod Walk
+pub mod Follow
 pub mod Along
 pub mod Course
+pub mod Links
+pub mod Apart
+pub mod Order
 pub mod Buckets
 pub mod Verdict
+pub mod Search
 pub mod Lookup
+pub mod LookupAnswers
 pub mod Demand

@@ -14,10 +14,6 @@ be (suc w) s at = be w s at * 256 + getD s (at + w) 0
 abbrev pub inside : List ℕ → ℕ → ℕ → Bool
 inside s at n = leb (at + n) (length s)
 
--- the field of entry i of a list at `at`, whose count stands first, with fields of four bytes
-abbrev pub entryField : ℕ → ℕ → ℕ
-entryField at i = at + 4 + 4 * i
-
 -- a count and that many entries of `size` bytes lie inside
 abbrev pub listInside : List ℕ → ℕ → ℕ → Bool
 listInside s at size = inside s at 4 && inside s at (4 + size * be 4 s at)

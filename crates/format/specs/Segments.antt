@@ -18,7 +18,8 @@ abbrev pub lengthened : ℕ → List (List ℕ) → List (List ℕ)
 lengthened b [] = []
 lengthened b (p ∷ ps) = (b ∷ p) ∷ ps
 
--- the pieces of a path that is cut at each slash: one more than it has slashes, and a piece may be empty
+-- the pieces of a path that is cut at each slash: one more than it has slashes, and a piece may be
+-- empty
 unfoldable pub segments : List ℕ → List (List ℕ)
 segments [] = [] ∷ []
 segments (b ∷ t) = if eqb b slash then [] ∷ segments t else lengthened b (segments t)

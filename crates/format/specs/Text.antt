@@ -5,6 +5,7 @@ use mathlib.Core.Bool.{Bool, true, false, _&&_}
 use lib.ListN.{length}
 use lib.Dec.{ltb, leb, eqb}
 use Rattle.format.specs.Choice.{if_then_else_}
+use Rattle.format.specs.Layout.{longestName}
 use Rattle.format.specs.declared.Text.{Text}
 use Rattle.format.specs.declared.Text.the-variants.{Whole, Empty, Long, Cut}
 
@@ -18,8 +19,8 @@ string (suc b ∷ t) = suc b ∷ string t
 abbrev pub ended : ℕ → Text
 ended n = if eqb n 0 then Empty else Whole n
 
--- what the string at the front of t is, within the limit: too long if its first limit + 1 bytes lie inside without a zero byte, else cut off
--- if no zero byte comes
+-- what the string at the front of t is, within the limit: too long if its first limit + 1 bytes lie
+-- inside without a zero byte, else cut off if no zero byte comes
 unfoldable pub text : ℕ → List ℕ → Text
 text limit t =
     let n = length (string t) in
@@ -38,7 +39,8 @@ sameBytes [] (b ∷ t) = false
 sameBytes (a ∷ s) [] = false
 sameBytes (a ∷ s) (b ∷ t) = eqb a b && sameBytes s t
 
--- a byte as a signed number, modulo 2^32: 128 to 255 count as -128 to -1 (request 1; in document 01 bytes count as 0 to 255)
+-- a byte as a signed number, modulo 2^32: 128 to 255 count as -128 to -1 (request 1; in document 01
+-- bytes count as 0 to 255)
 unfoldable pub signed : ℕ → ℕ
 signed b = if ltb b 128 then b else 2 ^ 32 + b - 256
 
@@ -58,4 +60,4 @@ hash name = hashNumbers (map signed name)
 
 -- a name that may be asked for has 1 to 255 bytes, none of them zero
 unfoldable pub allowed : List ℕ → Bool
-allowed name = ltb 0 (length name) && leb (length name) 255 && eqb (length (string name)) (length name)
+allowed name = ltb 0 (length name) && leb (length name) longestName && eqb (length (string name)) (length name)

@@ -17,21 +17,14 @@ pub struct Fault {
     pub place: usize,
 }
 
-// How a walk along a chain ends.
-pub enum Ending {
-    // The end value.
-    Ended,
-    // A record that bears the wanted name.
-    Met(usize),
-    // A record breaks a rule: the rule's number and its place.
+// What a field leads to on a chain.
+pub enum Link {
+    // The end value: no further record.
+    End,
+    // A record that breaks a rule: the rule's number and its place.
     Broken(u32, usize),
-    // As many records opened as may be: the last of them, or the bucket's field where none was.
-    Stopped(usize),
-}
-
-pub struct Walk {
-    pub ending: Ending,
-    pub opened: usize,
+    // A record that keeps the rules.
+    Record(usize),
 }
 
 pub struct CheckAnswer {
@@ -39,6 +32,13 @@ pub struct CheckAnswer {
     pub place: usize,
     pub directories: usize,
     pub icons: usize,
+    pub opened: usize,
+}
+
+// The record that bears a name, as the place of number 0, or why there is none.
+pub struct Found {
+    pub number: u32,
+    pub place: usize,
     pub opened: usize,
 }
 
@@ -54,7 +54,8 @@ pub struct DirectoryAnswer {
     pub place: usize,
 }
 
-// The number call's answer, and where the path's part stands in the buffer; with a refusal its start and its length are 0.
+// The number call's answer, and where the path's part stands in the buffer; with a refusal its
+// start and its length are 0.
 pub struct DirectoryPart {
     pub number: u32,
     pub place: usize,

@@ -1,33 +1,36 @@
-// The calls of document 01 over one lent buffer that holds an icon theme cache. Each takes any buffer, any name and any number, and says
-// its whole answer by a definition of the crate `format`.
+// The calls of document 01 over one lent buffer that holds an icon theme cache. Each takes any
+// buffer, any name and any number, and says its whole answer by a definition of the crate `format`.
 ghost use mathlib.Core.Path.{_≡_};
 ghost use Prim.Native.Nat.{_+_, _*_, _≤_};
 ghost use lib.ListN.{length};
 ghost use Rattle.format.specs.Header.{buckets};
 ghost use Rattle.format.specs.Record.{imagesAt, images};
-ghost use Rattle.format.specs.Call.{checked, checkBuckets, lookedUp, metAnswer, answerWords, lookupWords, partIs, directoryPart, directoryPath};
+ghost use Rattle.format.specs.Answer.{partIs};
+ghost use Rattle.format.specs.Answer as answers;
+ghost use Rattle.format.specs.Call.{checkBuckets, metAnswer, answerWords, lookupWords, directoryPart, directoryPath};
 ghost use Rattle.format.specs.Call as calls;
-ghost use Rattle.format.specs.Words.{CheckDemand, LookupKept};
+ghost use Rattle.format.specs.Demand.{CheckDemand, LookupKept};
 ghost use Rattle.tables.specs.Tables.{Right};
 use bigendian::u32_at;
 use format::CheckAnswer;
 use format::DirectoryAnswer;
 use format::DirectoryPart;
-use format::Ending;
 use format::Fault;
+use format::Found;
+use format::Link;
 use format::LookupAnswer;
 use tables::Tables;
 
-// The check's answer where `fault` is one of the rules 1 to 6 and 16.
-fn refused(fault: Fault) -> CheckAnswer
-    ensures { λ r. ⌜ r ≡ checked (fault .number) (fault .place) 0 0 0 ⌝ }
+// The check's answer where the rule `number` is broken at `place`, after `opened` records.
+fn refused(number: u32, place: usize, opened: usize) -> CheckAnswer
+    ensures { λ r. ⌜ r ≡ answers.refused number place opened ⌝ }
 {
     CheckAnswer {
-        number: fault.number,
-        place: fault.place,
+        number,
+        place,
         directories: 0,
         icons: 0,
-        opened: 0,
+        opened,
     }
 }
 
@@ -37,34 +40,21 @@ fn check_buckets(cache: &[u8], t: Tables) -> CheckAnswer
     ensures { λ r. ⌜ r ≡ checkBuckets (buckets (now (cache .entry))) (now (cache .entry)) 0 0 ⌝ }
 {
     let n = t.buckets;
-    let limit = cache.len() - 10;
+    let most = cache.len() - 11;
     let mut k = 0;
-    let mut opened = 0;
+    let mut icons = 0;
     while k < n {
-        let walk = chains::walk(cache, t, k, &cache[..0], opened, limit);
-        opened = walk.opened;
-        let ending = walk.ending;
-        match ending {
-            Ending::Broken(number, place) => {
-                return CheckAnswer {
-                    number,
-                    place,
-                    directories: 0,
-                    icons: 0,
-                    opened,
-                };
+        let chain = chains::chain(cache, t, k, most - icons);
+        icons += chain.records;
+        let after = chain.after;
+        match after {
+            Link::Broken(number, place) => {
+                return refused(number, place, icons + chains::itself(number));
             }
-            Ending::Stopped(_) => {
-                let place = tables::bucket_field(t, k);
-                return CheckAnswer {
-                    number: 12,
-                    place,
-                    directories: 0,
-                    icons: 0,
-                    opened,
-                };
+            Link::Record(_) => {
+                return refused(12, tables::bucket_field(t, k), icons + 1);
             }
-            _ => {}
+            Link::End => {}
         }
         k += 1;
     }
@@ -72,8 +62,8 @@ fn check_buckets(cache: &[u8], t: Tables) -> CheckAnswer
         number: 0,
         place: 0,
         directories: t.directories,
-        icons: opened,
-        opened,
+        icons,
+        opened: icons,
     }
 }
 
@@ -84,18 +74,47 @@ pub fn check(cache: &[u8]) -> CheckAnswer
 {
     let header = tables::header(cache);
     if header.number != 0 {
-        return refused(header);
+        return refused(header.number, header.place, 0);
     }
     let t = tables::read(cache);
     let paths = tables::paths(cache, t);
     if paths.number != 0 {
-        return refused(paths);
+        return refused(paths.number, paths.place, 0);
     }
     check_buckets(cache, t)
 }
 
-// The answer where the walk met the record at `met`, after `opened` records. Its images go into `words` if there is room for all.
-fn found(cache: &[u8], met: usize, opened: usize, words: &mut [u32]) -> LookupAnswer
+// The answer of a search that is refused before it opens a record.
+fn unfound(number: u32, place: usize) -> Found
+    ensures { λ r. ⌜ r ≡ answers.unfound number place 0 ⌝ }
+{
+    Found {
+        number,
+        place,
+        opened: 0,
+    }
+}
+
+// The first record that bears `name` on the chain of the name's bucket alone, without its images.
+pub fn find(cache: &[u8], name: &[u8]) -> Found
+    ensures { λ r. ⌜ r ≡ calls.find (now (cache .entry)) (now (name .entry)) ⌝ }
+{
+    let query = text::asked(name);
+    if !query.allowed {
+        return unfound(13, 0);
+    }
+    let header = tables::header(cache);
+    if header.number != 0 {
+        return unfound(header.number, header.place);
+    }
+    let t = tables::read(cache);
+    let bucket = query.hash as usize % t.buckets;
+    chains::search(cache, t, bucket, name)
+}
+
+// The answer with the images of the record at `met`, after `opened` records. They go into `words`
+// if there is room for all.
+fn with_images(cache: &[u8], met: usize, opened: usize, words: &mut [u32]) -> LookupAnswer
     requires { ⌜ met + 12 ≤ length (now cache) ⌝ }
     requires { ⌜ imagesAt (now cache) met + 4 + 8 * images (now cache) met ≤ length (now cache) ⌝ }
     ensures answer { λ r. ⌜ r ≡ metAnswer (now (cache .entry)) (length (now (words .entry))) met opened ⌝ }
@@ -120,44 +139,24 @@ fn found(cache: &[u8], met: usize, opened: usize, words: &mut [u32]) -> LookupAn
     }
 }
 
-// The answer without images, after `opened` records.
-fn not_found(number: u32, place: usize, opened: usize) -> LookupAnswer
-    ensures { λ r. ⌜ r ≡ lookedUp number place 0 opened ⌝ }
-{
-    LookupAnswer {
-        number,
-        place,
-        images: 0,
-        opened,
-    }
-}
-
-// Looks for the first record that bears `name`, on the chain of the name's bucket alone. Found with enough room, its images stand in
-// `words`, two words each, and the words beyond are as they were; with any other answer all of them are.
+// Looks for the first record that bears `name`, on the chain of the name's bucket alone. Found with
+// enough room, its images stand in `words`, two words each, and the words beyond are as they were;
+// with any other answer all of them are.
 pub fn lookup(cache: &[u8], name: &[u8], words: &mut [u32]) -> LookupAnswer
     ensures answer { λ r. ⌜ r ≡ calls.lookup (now (cache .entry)) (now (name .entry)) (length (now (words .entry))) ⌝ }
     ensures lent { λ r. ⌜ now (words .exit) ≡ lookupWords (now (cache .entry)) (now (name .entry)) (now (words .entry)) ⌝ }
     ensures demand { λ r. ⌜ LookupKept (now (cache .entry)) (now (name .entry)) r ⌝ }
 {
-    let query = text::asked(name);
-    if !query.allowed {
-        return not_found(13, 0, 0);
+    let found = find(cache, name);
+    if found.number != 0 {
+        return LookupAnswer {
+            number: found.number,
+            place: found.place,
+            images: 0,
+            opened: found.opened,
+        };
     }
-    let header = tables::header(cache);
-    if header.number != 0 {
-        return not_found(header.number, header.place, 0);
-    }
-    let t = tables::read(cache);
-    let bucket = query.hash as usize % t.buckets;
-    let walk = chains::walk(cache, t, bucket, name, 0, cache.len() - 10);
-    let opened = walk.opened;
-    let ending = walk.ending;
-    match ending {
-        Ending::Met(met) => found(cache, met, opened, words),
-        Ending::Broken(number, place) => not_found(number, place, opened),
-        Ending::Stopped(_) => not_found(12, tables::bucket_field(t, bucket), opened),
-        Ending::Ended => not_found(30, 0, opened),
-    }
+    with_images(cache, found.place, found.opened, words)
 }
 
 // A refusal of a directory index.
@@ -209,7 +208,8 @@ pub fn directory(cache: &[u8], index: usize) -> DirectoryAnswer
     }
 }
 
-// The path of directory `index` as a part of `cache`, without its zero byte; empty where `directory` refuses.
+// The path of directory `index` as a part of `cache`, without its zero byte; empty where
+// `directory` refuses.
 pub fn directory_path(cache: &[u8], index: usize) -> &[u8]
     ensures { λ r. ⌜ now r ≡ directoryPath (now (cache .entry)) index ⌝ }
 {

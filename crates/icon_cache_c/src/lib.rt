@@ -1,9 +1,11 @@
-// The public calls for C: bindings/c/icon_cache.h declares them. Each hands on the library's answer whole, the number as its result and the
-// rest through the pointers; but the path call leaves out the place, which `icon_cache_directory` gives, and so do the calls for flags, where it is
-// always 0.
+// The public calls for C: bindings/c/icon_cache.h declares them. Each hands on the library's answer
+// whole, the number as its result and the rest through the pointers; but the path call leaves out
+// the place, which `icon_cache_directory` gives, and so do the calls for flags, where it is always
+// 0.
 ghost use mathlib.Core.Path.{_≡_};
 ghost use lib.ListN.{length};
-ghost use Rattle.format.specs.Call.{check, checked, lookup, lookupWords, lookedUp, directory, directoryIs, directoryPart, partIs};
+ghost use Rattle.format.specs.Answer.{checked, lookedUp, directoryIs, partIs};
+ghost use Rattle.format.specs.Call.{check, lookup, lookupWords, directory, directoryPart};
 ghost use Rattle.listing.specs.Listing.{position, step, stepIs};
 ghost use Rattle.flags.specs.Flags.{flagsIs, flagsIn, flagsOut};
 use listing::Position;

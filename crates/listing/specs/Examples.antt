@@ -9,9 +9,9 @@ use Rattle.format.specs.Fault.{_orElse_}
 use Rattle.format.specs.Text.{string, text, isWhole, sameBytes, signed, hashFrom, hashNumbers, hash}
 use Rattle.format.specs.Header.{headerFault}
 use Rattle.format.specs.Record.{imagesFault, nameFault, listFault, recordFault}
-use Rattle.format.specs.Chain.{walk}
+use Rattle.format.specs.Chain.{linkFault, follow, chain}
 use Rattle.format.specs.Farm.{farm, looped, patched}
-use Rattle.listing.specs.Listing.{position, stepIs, positionFault, onward, step}
+use Rattle.listing.specs.Listing.{position, handsBack, stays, positionFault, onward, step}
 use Rattle.listing.specs.declared.Position.{Position}
 use Rattle.listing.specs.declared.Step.{Step}
 
@@ -31,27 +31,27 @@ all (b ∷ bs) = b && all bs
 unfoldable pub examples : List Bool
 examples =
     -- hen and oat of bucket 0, none of bucket 1, cow of bucket 2, then done
-    answers farm (position 0 0) (stepIs 0 0 28 (position 0 1)) ∷
-    answers farm (position 0 1) (stepIs 0 0 40 (position 0 2)) ∷
-    answers farm (position 0 2) (stepIs 0 0 52 (position 2 1)) ∷
-    answers farm (position 2 1) (stepIs 28 0 0 (position 2 1)) ∷
+    answers farm (position 0 0) (handsBack 28 (position 0 1)) ∷
+    answers farm (position 0 1) (handsBack 40 (position 0 2)) ∷
+    answers farm (position 0 2) (handsBack 52 (position 2 1)) ∷
+    answers farm (position 2 1) (stays 28 0 (position 2 1)) ∷
     -- made up: the largest count and one more, with L = 126; an empty bucket; past the last bucket
-    answers farm (position 0 115) (stepIs 0 0 52 (position 2 1)) ∷
-    answers farm (position 0 116) (stepIs 26 0 0 (position 0 116)) ∷
-    answers farm (position 1 0) (stepIs 0 0 52 (position 2 1)) ∷
-    answers farm (position 2 115) (stepIs 28 0 0 (position 2 115)) ∷
-    answers farm (position 3 0) (stepIs 26 0 0 (position 3 0)) ∷
+    answers farm (position 0 115) (handsBack 52 (position 2 1)) ∷
+    answers farm (position 0 116) (stays 26 0 (position 0 116)) ∷
+    answers farm (position 1 0) (handsBack 52 (position 2 1)) ∷
+    answers farm (position 2 115) (stays 28 0 (position 2 115)) ∷
+    answers farm (position 3 0) (stays 26 0 (position 3 0)) ∷
     -- a chain without an end: round and round
-    answers looped (position 0 2) (stepIs 0 0 28 (position 0 3)) ∷
-    answers looped (position 0 115) (stepIs 0 0 40 (position 0 116)) ∷
-    answers looped (position 0 116) (stepIs 26 0 0 (position 0 116)) ∷
+    answers looped (position 0 2) (handsBack 28 (position 0 3)) ∷
+    answers looped (position 0 115) (handsBack 40 (position 0 116)) ∷
+    answers looped (position 0 116) (stays 26 0 (position 0 116)) ∷
     -- the name of cow is cut off: it is judged when it is its turn
-    answers (take 125 farm) (position 0 1) (stepIs 0 0 40 (position 0 2)) ∷
-    answers (take 125 farm) (position 0 2) (stepIs 8 56 0 (position 0 2)) ∷
+    answers (take 125 farm) (position 0 1) (handsBack 40 (position 0 2)) ∷
+    answers (take 125 farm) (position 0 2) (stays 8 56 (position 0 2)) ∷
     -- a header of eleven bytes
-    answers (take 11 farm) (position 0 0) (stepIs 1 0 0 (position 0 0)) ∷
+    answers (take 11 farm) (position 0 0) (stays 1 0 (position 0 0)) ∷
     []
 
 examples-hold : T (all examples)
-unfolding all answers samePosition examples looped patched farm step onward positionFault walk recordFault nameFault listFault imagesFault headerFault _orElse_ text string isWhole sameBytes signed hashFrom hashNumbers hash be
+unfolding all answers samePosition examples looped patched farm step onward positionFault linkFault follow chain recordFault nameFault listFault imagesFault headerFault _orElse_ text string isWhole sameBytes signed hashFrom hashNumbers hash be
 examples-hold = tt

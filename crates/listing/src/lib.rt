@@ -1,12 +1,13 @@
-// Paging through a cache: from a position, which the caller holds, the next record in the check's order and the position after it.
+// Paging through a cache: from a position, which the caller holds, the next record in the check's
+// order and the position after it.
 ghost use mathlib.Core.Path.{_≡_};
 ghost use Prim.Native.Nat.{_-_, _≤_, _<_};
 ghost use lib.ListN.{length};
 ghost use Rattle.format.specs.Header.{buckets};
 ghost use Rattle.tables.specs.Tables.{Right};
-ghost use Rattle.listing.specs.Listing.{stepIs, step};
+ghost use Rattle.listing.specs.Listing.{stays, step};
 ghost use Rattle.listing.specs.Listing as definition;
-use format::Ending;
+use format::Link;
 use tables::Tables;
 
 // A bucket, and how many records of its chain are passed. A caller may make one up.
@@ -15,8 +16,8 @@ pub struct Position {
     pub count: usize,
 }
 
-// The answer from a position: with number 0 the offset of the record and the position after it; with any other number 0 and the position as it
-// came.
+// The answer from a position: with number 0 the offset of the record and the position after it;
+// with any other number 0 and the position as it came.
 pub struct Step {
     pub number: u32,
     pub place: usize,
@@ -37,7 +38,7 @@ impl Position {
 
     // The answer without a record.
     fn stay(self, number: u32, place: usize) -> Step
-        ensures { λ r. ⌜ r ≡ stepIs number place 0 self ⌝ }
+        ensures { λ r. ⌜ r ≡ stays number place self ⌝ }
     {
         Step {
             number,
@@ -47,7 +48,8 @@ impl Position {
         }
     }
 
-    // The answer from a position that is right: the chains are tried from its own on, and only on that are records passed.
+    // The answer from a position that is right: the chains are tried from its own on, and only on
+    // that are records passed.
     fn onward(self, cache: &[u8], t: Tables) -> Step
         requires { ⌜ Right (now cache) t ⌝ }
         requires { ⌜ (self .bucket < buckets (now cache)) × (self .count ≤ length (now cache) - 11) ⌝ }
@@ -57,12 +59,14 @@ impl Position {
         let mut bucket = self.bucket;
         let mut passed = self.count;
         while bucket < n {
-            let count = passed + 1;
-            let walk = chains::walk(cache, t, bucket, &cache[..0], 0, count);
-            let ending = walk.ending;
-            match ending {
-                Ending::Stopped(offset) => {
-                    let next = Position { bucket, count };
+            let chain = chains::chain(cache, t, bucket, passed);
+            let after = chain.after;
+            match after {
+                Link::Record(offset) => {
+                    let next = Position {
+                        bucket,
+                        count: passed + 1,
+                    };
                     return Step {
                         number: 0,
                         place: 0,
@@ -70,10 +74,10 @@ impl Position {
                         next,
                     };
                 }
-                Ending::Broken(number, place) => {
+                Link::Broken(number, place) => {
                     return self.stay(number, place);
                 }
-                _ => {}
+                Link::End => {}
             }
             bucket += 1;
             passed = 0;

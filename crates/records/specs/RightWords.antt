@@ -1,5 +1,6 @@
--- Which first words of images have a right index. A first word is the index times 65,536 plus the flags, so those with a right index follow one
--- another: with no directories the 65,536 words from 0xFFFF0000 on, and otherwise 65,536 words for each directory from 0 on.
+-- Which first words of images have a right index. A first word is the index times 65,536 plus the
+-- flags, so those with a right index follow one another: with no directories the 65,536 words from
+-- 0xFFFF0000 on, and otherwise 65,536 words for each directory from 0 on.
 use Prim.Native.Nat.{ℕ, _*_}
 use lib.Dec.{eqb}
 use Rattle.format.specs.Choice.{if_then_else_}

@@ -18,8 +18,9 @@ use std::num::wrapping_sub_u32;
 use tables::Tables;
 use tables::list_inside;
 
-// The first words of images whose index is right: `span` of them from `lowest` on. The index is the high half of the word, so those words follow one
-// another and one test settles the index of an image.
+// The first words of images whose index is right: `span` of them from `lowest` on. The index is the
+// high half of the word, so those words follow one another and one test settles the index of an
+// image.
 struct RightWords {
     lowest: u32,
     span: u32,
@@ -113,7 +114,8 @@ fn name_part(cache: &[u8], offset: usize) -> &[u8]
     text::from(cache, at)
 }
 
-// Rules 8 and 9 on the name of the record at `offset`, on the chain of `bucket`. A name that is `known` to keep them isn't read.
+// Rules 8 and 9 on the name of the record at `offset`, on the chain of `bucket`. A name that is
+// `known` to keep them isn't read.
 fn judge_name(cache: &[u8], t: Tables, bucket: usize, offset: usize, known: bool) -> Fault
     requires { ⌜ Right (now cache) t ⌝ }
     requires { ⌜ offset + 12 ≤ length (now cache) ⌝ }
@@ -164,7 +166,8 @@ fn judge_images(cache: &[u8], t: Tables, offset: usize) -> Fault
     images(cache, n, m, at + 4)
 }
 
-// The first of the rules 8 to 11 that the record at `offset` breaks, on the chain of `bucket`. A name that is `known` to keep 8 and 9 isn't read.
+// The first of the rules 8 to 11 that the record at `offset` breaks, on the chain of `bucket`. A
+// name that is `known` to keep 8 and 9 isn't read.
 pub fn judge(cache: &[u8], t: Tables, bucket: usize, offset: usize, known: bool) -> Fault
     requires { ⌜ Right (now cache) t ⌝ }
     requires { ⌜ offset + 12 ≤ length (now cache) ⌝ }
@@ -187,8 +190,8 @@ pub fn bears(cache: &[u8], offset: usize, name: &[u8]) -> bool
     text::same(part, name)
 }
 
-// Puts the two words of each of `m` images from `at` on into `words`, from the last image to the first, and leaves the words beyond as
-// they were.
+// Puts the two words of each of `m` images from `at` on into `words`, from the last image to the
+// first, and leaves the words beyond as they were.
 pub fn write_images(cache: &[u8], at: usize, m: usize, words: &mut [u32])
     requires { ⌜ (at + 8 * m ≤ length (now cache)) × (2 * m ≤ length (now words)) ⌝ }
     ensures { λ r. ⌜ now (words .exit) ≡ imageWords m (now (cache .entry)) at ++ drop (2 * m) (now (words .entry)) ⌝ }

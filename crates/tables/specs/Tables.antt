@@ -1,18 +1,21 @@
--- Where the two tables of a cache stand and how many entries they have, and the fields of their entries.
+-- Where the two tables of a cache stand and how many entries they have, and the fields of their
+-- entries.
 use Prim.Native.Nat.{ℕ}
 use mathlib.Core.Path.{_≡_}
 use mathlib.Core.List.{List}
 use lib.ListN.{length}
 use Rattle.format.specs.Choice.{if_then_else_}
-use Rattle.format.specs.Number.{be, entryField, listInside}
+use Rattle.format.specs.Layout.{fieldSize, entryField}
+use Rattle.format.specs.Number.{be, listInside}
 use Rattle.format.specs.Fault.{fault, ifKept}
 use Rattle.format.specs.Header.{headerFault, hashAt, buckets, directoriesAt, directories, pathField, pathOf, pathFault}
 use Rattle.tables.specs.declared.Tables.{Tables}
 use Rattle.tables.specs.declared.JudgedPath.{JudgedPath}
 
--- the count of the list whose offset stands at f, or another number where the list does not lie inside
+-- the count of the list whose offset stands at f, or another number where the list does not lie
+-- inside
 abbrev pub listCount : List ℕ → ℕ → ℕ → ℕ
-listCount s f other = if listInside s (be 4 s f) 4 then be 4 s (be 4 s f) else other
+listCount s f other = if listInside s (be 4 s f) fieldSize then be 4 s (be 4 s f) else other
 
 abbrev pub tablesOf : List ℕ → Tables
 tablesOf s = record { «hash_at» = hashAt s; buckets = buckets s; «directories_at» = directoriesAt s; directories = directories s }

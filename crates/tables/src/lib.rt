@@ -18,7 +18,8 @@ pub struct Tables {
     pub directories: usize,
 }
 
-// What is judged of a path, and where it stands if it keeps the rules; else its start and its length are 0.
+// What is judged of a path, and where it stands if it keeps the rules; else its start and its
+// length are 0.
 pub struct JudgedPath {
     pub fault: Fault,
     pub start: usize,
@@ -49,7 +50,8 @@ fn version_right(cache: &[u8]) -> bool
     }
 }
 
-// The count of the list whose offset stands at `field`, or `other` where the list doesn't lie inside.
+// The count of the list whose offset stands at `field`, or `other` where the list doesn't lie
+// inside.
 fn list_count(cache: &[u8], field: usize, other: u32) -> u32
     requires { ⌜ field + 4 ≤ length (now cache) ⌝ }
     ensures { λ r. ⌜ r ≡ listCount (now (cache .entry)) field other ⌝ }
@@ -105,7 +107,7 @@ pub fn header(cache: &[u8]) -> Fault
 // The tables of a cache whose header breaks no rule.
 pub fn read(cache: &[u8]) -> Tables
     requires { ⌜ headerFault (now cache) .number ≡ 0 ⌝ }
-    ensures { λ r. ⌜ r ≡ tablesOf (now (cache .entry)) ⌝ }
+    ensures { λ r. ⌜ Right (now (cache .entry)) r ⌝ }
 {
     let hash_at = u32_at(cache, 4) as usize;
     let buckets = u32_at(cache, hash_at) as usize;
@@ -150,7 +152,8 @@ fn bad_path(number: u32, field: usize) -> JudgedPath
     }
 }
 
-// Rules 6 and 16 on the path of directory `i`, in a cache whose header breaks no rule, and where the path stands if it keeps both.
+// Rules 6 and 16 on the path of directory `i`, in a cache whose header breaks no rule, and where
+// the path stands if it keeps both.
 pub fn path(cache: &[u8], t: Tables, i: usize) -> JudgedPath
     requires { ⌜ Right (now cache) t ⌝ }
     requires { ⌜ i < directories (now cache) ⌝ }
@@ -184,7 +187,8 @@ pub fn path(cache: &[u8], t: Tables, i: usize) -> JudgedPath
     }
 }
 
-// The rule that the first wrong path breaks, 6 or 16, and its place, in a cache whose header breaks no rule.
+// The rule that the first wrong path breaks, 6 or 16, and its place, in a cache whose header breaks
+// no rule.
 pub fn paths(cache: &[u8], t: Tables) -> Fault
     requires { ⌜ Right (now cache) t ⌝ }
     ensures { λ r. ⌜ r ≡ pathsFault (directories (now (cache .entry))) (now (cache .entry)) 0 ⌝ }

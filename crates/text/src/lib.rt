@@ -1,5 +1,6 @@
-// Strings that end in a zero byte: what one is, as a name with its hash or as a path with its segments; whether a name is the one asked for, and
-// whether it may be asked for. A string is handed over as the part of the buffer from its offset on.
+// Strings that end in a zero byte: what one is, as a name with its hash or as a path with its
+// segments; whether a name is the one asked for, and whether it may be asked for. A string is
+// handed over as the part of the buffer from its offset on.
 ghost use mathlib.Core.Path.{_≡_};
 ghost use mathlib.Core.Bool.{_&&_};
 ghost use Prim.Native.Nat.{_-_, _*_, _%_, _^_, _≤_};
@@ -17,7 +18,8 @@ pub struct Name {
     pub hash: u32,
 }
 
-// A string as a path, and whether the segments of its first 1,023 bytes are right: of all of them, unless it is too long.
+// A string as a path, and whether the segments of its first 1,023 bytes are right: of all of them,
+// unless it is too long.
 pub struct Path {
     pub text: Text,
     pub segments_right: bool,
@@ -47,15 +49,17 @@ fn ended(n: usize) -> Text
     if n == 0 { Text::Empty } else { Text::Whole(n) }
 }
 
-// 31 times `h`, modulo 2^32: the `(h << 5) - h` of the note that `read_name` quotes. Bits that leave the 32 are lost, as in C.
+// 31 times `h`, modulo 2^32: the `(h << 5) - h` of the note that `read_name` quotes. Bits that
+// leave the 32 are lost, as in C.
 fn times31(h: u32) -> u32
     ensures { λ r. ⌜ r ≡ (31 * h) % 2 ^ 32 ⌝ }
 {
     wrapping_sub_u32(h << 5, h)
 }
 
-// A byte as a signed number, modulo 2^32. 128 is added within 8 bits, where a byte from 128 on wraps, and taken away within 32 bits, where such a
-// byte then wraps below 0. The compiler makes one sign extension of it.
+// A byte as a signed number, modulo 2^32. 128 is added within 8 bits, where a byte from 128 on
+// wraps, and taken away within 32 bits, where such a byte then wraps below 0. The compiler makes
+// one sign extension of it.
 fn signed(byte: u8) -> u32
     ensures { λ r. ⌜ r ≡ signed byte ⌝ }
 {
@@ -63,10 +67,11 @@ fn signed(byte: u8) -> u32
     wrapping_sub_u32(raised, 128)
 }
 
-// What the string at the front of `part` is as a name, and its hash. One loop serves both: most of a lookup is the reading of the names that it
-// passes. No more than 256 bytes are read.
+// What the string at the front of `part` is as a name, and its hash. One loop serves both: most of
+// a lookup is the reading of the names that it passes. No more than 256 bytes are read.
 //
-// The hash is computed as the freedesktop note (source document 000) prints it under "Notes", in `icon_str_hash`, each step modulo 2^32:
+// The hash is computed as the freedesktop note (source document 000) prints it under "Notes", in
+// `icon_str_hash`, each step modulo 2^32:
 //
 //     unsigned int h = *p;
 //
@@ -74,8 +79,9 @@ fn signed(byte: u8) -> u32
 //       for (p += 1; *p != '\0'; p++)
 //         h = (h << 5) - h + *p;
 //
-// `times31` is the note's `(h << 5) - h`, and `signed` its `*p`. Here the first byte goes through the loop too: from 0, `(0 << 5) - 0 + *p` is `*p`.
-// `if (h)` is left out: the first byte of an allowed name is not zero, so the test always holds.
+// `times31` is the note's `(h << 5) - h`, and `signed` its `*p`. Here the first byte goes through
+// the loop too: from 0, `(0 << 5) - 0 + *p` is `*p`. `if (h)` is left out: the first byte of an
+// allowed name is not zero, so the test always holds.
 pub fn read_name(part: &[u8]) -> Name
     ensures text { λ r. ⌜ r .text ≡ text 255 (now (part .entry)) ⌝ }
     ensures hash { λ r. ⌜ r .hash ≡ hash (take 255 (string (now (part .entry)))) ⌝ }
@@ -106,7 +112,8 @@ pub fn read_name(part: &[u8]) -> Name
     }
 }
 
-// Whether `segment` is one that a path may have: not empty, "." or "..". Of one with three bytes or more no byte is read.
+// Whether `segment` is one that a path may have: not empty, "." or "..". Of one with three bytes or
+// more no byte is read.
 fn segment_right(segment: &[u8]) -> bool
     ensures { λ r. ⌜ r ≡ segmentRight (now (segment .entry)) ⌝ }
 {
@@ -130,8 +137,8 @@ fn right_to(part: &[u8], before: bool, start: usize, end: usize) -> bool
     }
 }
 
-// What the string at the front of `part` is as a path, and whether its segments are right. One loop serves both: a segment is judged where it ends.
-// No more than 1,024 bytes are read.
+// What the string at the front of `part` is as a path, and whether its segments are right. One loop
+// serves both: a segment is judged where it ends. No more than 1,024 bytes are read.
 pub fn read_path(part: &[u8]) -> Path
     ensures text { λ r. ⌜ r .text ≡ text 1023 (now (part .entry)) ⌝ }
     ensures segments { λ r. ⌜ r .«segments_right» ≡ segmentsRight (take 1023 (string (now (part .entry)))) ⌝ }
@@ -166,7 +173,8 @@ pub fn read_path(part: &[u8]) -> Path
     }
 }
 
-// Whether the string at the front of `part` is whole and is `name`: as long, and byte for byte the same.
+// Whether the string at the front of `part` is whole and is `name`: as long, and byte for byte the
+// same.
 pub fn same(part: &[u8], name: &[u8]) -> bool
     requires { ⌜ length (now name) ≤ 255 ⌝ }
     ensures { λ r. ⌜ r ≡ (isWhole (text 255 (now (part .entry))) && sameBytes (string (now (part .entry))) (now (name .entry))) ⌝ }

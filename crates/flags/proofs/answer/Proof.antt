@@ -7,9 +7,6 @@ use Rattle.flags.specs.Laws.{right-facts, answer-right, answer-wrong}
 use Rattle.flags.proofs.answer.Statement.{statement}
 use Rattle.flags.proofs.answer.Tie as tie
 
-right-requires : tie.Need-right-requires
-right-requires c κs = search needs
-
 judged-right : (c : tie.Then1) → let a = c .before .before .args in (a .flags ≤ 15) × (a .from ≤ 1) × (a .to ≤ 1)
 judged-right c = right-facts _ _ _ (sym (c .before .right .ensures) ∙ c .if1 .taken)
 
@@ -25,4 +22,4 @@ returns-2 : tie.Need-returns-2
 returns-2 c = sym (answer-wrong _ _ _ (sym (c .before .right .ensures) ∙ c .if1 .left))
 
 pub answer-spec : {M : Type 1} → statement M
-answer-spec = tie.close (tie.spec right-requires renumbered-requires returns returns-2)
+answer-spec = tie.close (tie.spec (λ c κs. search needs) renumbered-requires returns returns-2)

@@ -10,7 +10,8 @@ use Rattle.flags.proofs.from_gtk.Tie as tie
 use Rattle.flags.proofs.from_gtk.Reads as reads
 use Rattle.flags.proofs.from_gtk.Lts as lts
 
--- what the code returns for the flags x, as the prover reads it off the code: m14 is the state in which it returns
+-- what the code returns for the flags x, as the prover reads it off the code: m14 is the state in
+-- which it returns
 result : ℕ → ℕ
 result x = resV lts.r tt (lts.m14 reads.Pre reads.Post (record { flags = x }) .0)
 

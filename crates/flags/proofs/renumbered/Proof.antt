@@ -1,16 +1,11 @@
--- `flags::renumbered` meets its contract. Two known numberings are the same, or one is 0 and the other 1.
+-- `flags::renumbered` meets its contract. Two known numberings are the same, or one is 0 and the
+-- other 1.
 use mathlib.Core.Path.{_≡_, sym}
 use native.Mathlib.Omega.{arith}
 use borrow.Author.Needs.{needs}
 use Rattle.flags.specs.Laws.{same-numbering}
 use Rattle.flags.proofs.renumbered.Statement.{statement}
 use Rattle.flags.proofs.renumbered.Tie as tie
-
-to-gtk-requires : tie.Need-to-gtk-requires
-to-gtk-requires c κs = search needs
-
-from-gtk-requires : tie.Need-from-gtk-requires
-from-gtk-requires c κs = search needs
 
 returns : tie.Need-returns
 returns c = rw (c .if1 .taken) (sym (same-numbering _ _ (c .before .pre .0)))
@@ -28,4 +23,4 @@ returns-3 c =
     rw (from, to) (c .from-gtk .ensures)
 
 pub renumbered-spec : {M : Type 1} → statement M
-renumbered-spec = tie.close (tie.spec to-gtk-requires from-gtk-requires returns returns-2 returns-3)
+renumbered-spec = tie.close (tie.spec (λ c κs. search needs) (λ c κs. search needs) returns returns-2 returns-3)

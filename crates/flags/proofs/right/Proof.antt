@@ -1,4 +1,5 @@
--- `flags::right` meets its contract: where the ways of the first two tests meet, their result is what the definition asks first.
+-- `flags::right` meets its contract: where the ways of the first two tests meet, their result is
+-- what the definition asks first.
 use mathlib.Core.Path.{_≡_, sym, _∙_}
 use mathlib.Core.Bool.{_&&_}
 use mathlib.Core.Logic.{⊎-elim}

@@ -1,11 +1,12 @@
 -- The records of chains that hold are few: they lie apart.
-use Prim.Native.Nat.{ℕ, zero, suc, _+_, _-_, _≤_, _<_}
+use Prim.Native.Nat.{ℕ, zero, suc, _+_, _≤_, _<_}
 use mathlib.Core.Path.{_≡_}
 use mathlib.Core.Logic.{_⊎_, inl, inr}
 use mathlib.Core.List.{List, [], _∷_, List·Memᴰ, List·Memᴰ·not-nil, List·Memᴰ·cases-cons}
 use native.Mathlib.Omega.{arith}
 use lib.ListN.{length}
 use Rattle.format.specs.Record.{nameOf, bucketOf}
+use Rattle.format.specs.Chain.{mostRecords}
 use Rattle.format.specs.Words.{link, Inside, Keeps, KeepsBelow, Holds}
 use Rattle.format.specs.Laws.Pigeonhole.{Distinct, member, pigeonhole}
 use Rattle.format.specs.Laws.Links.{Repeat, once, keeps-bucket}
@@ -35,8 +36,8 @@ pub record Apart (s : List ℕ) (k : ℕ) (xs : List ℕ) : Type 0 where
   pub inside : (y : ℕ) → List·Memᴰ y xs → Inside s y
   pub lower : (y : ℕ) → List·Memᴰ y xs → bucketOf s (nameOf s y) < k
 
-pub apart-length : {s : List ℕ} {k : ℕ} {xs : List ℕ} → Apart s k xs → length xs ≤ length s - 11
-apart-length {s} {xs = xs} a = pigeonhole (length s - 11) xs (a .distinct) (λ y h. omega (arith, a .inside y h))
+pub apart-length : {s : List ℕ} {k : ℕ} {xs : List ℕ} → Apart s k xs → length xs ≤ mostRecords s
+apart-length {s} {xs = xs} a = pigeonhole (mostRecords s) xs (a .distinct) (λ y h. omega (arith, a .inside y h))
 
 pub apart-none : (s : List ℕ) (k : ℕ) → Apart s k []
 apart-none s k = record { distinct = tt; inside = λ y h. absurd (List·Memᴰ·not-nil h); lower = λ y h. absurd (List·Memᴰ·not-nil h) }
@@ -50,7 +51,8 @@ apart-cons keeps new a = record {
 }
 
 module _ {s : List ℕ} {k : ℕ} {xs : List ℕ} (a : Apart s k xs) where
-  -- n records that keep the rules of the chain of bucket k repeat, or lie apart from xs and from one another
+  -- n records that keep the rules of the chain of bucket k repeat, or lie apart from xs and from
+  -- one another
   pub apart-visits : (n : ℕ) → KeepsBelow s k n → Repeat s k n ⊎ Apart s (suc k) (visits s k n xs)
   unfolding visits
   apart-visits zero keeps = inr (record { distinct = a .distinct; inside = a .inside; lower = λ y h. omega (arith, a .lower y h) })
@@ -71,15 +73,19 @@ module _ {s : List ℕ} {k : ℕ} {xs : List ℕ} (a : Apart s k xs) where
   apart-chain {n} h = elim (apart-visits n (h .keeps)) [ inl c ↦ absurd (once h c) | inr b ↦ b ]
 
   -- these and records of the chain of bucket k that keep the rules and do not repeat are few
-  pub apart-few : {n : ℕ} → KeepsBelow s k n → (Repeat s k n → ⊥) → length xs + n ≤ length s - 11
+  pub apart-few : {n : ℕ} → KeepsBelow s k n → (Repeat s k n → ⊥) → length xs + n ≤ mostRecords s
   apart-few {n} keeps never = elim (apart-visits n keeps) [
     | inl c ↦ absurd (never c)
     | inr b ↦ omega (arith, apart-length b, visits-length s k n xs)
   ]
 
--- a chain with more records that keep the rules than there can be repeats
-pub repeats : {s : List ℕ} {k : ℕ} {xs : List ℕ} → 12 ≤ length s → Apart s k xs → KeepsBelow s k (length s - 10 - length xs) → Repeat s k (length s - 10 - length xs)
-repeats {s} {k} {xs} long a keeps = elim (apart-visits a (length s - 10 - length xs) keeps) [
-  | inl c ↦ c
-  | inr b ↦ absurd (omega (arith, apart-length a, apart-length b, visits-length s k (length s - 10 - length xs) xs))
-]
+  -- with more than there can be, it repeats
+  pub repeats : {n : ℕ} → mostRecords s < length xs + n → KeepsBelow s k n → Repeat s k n
+  repeats {n} more keeps = elim (apart-visits n keeps) [
+    | inl c ↦ c
+    | inr b ↦ absurd (omega (arith, apart-length b, visits-length s k n xs))
+  ]
+
+-- the records of one chain that holds
+pub holds-few : {s : List ℕ} {k n : ℕ} → Holds s k n → n ≤ mostRecords s
+holds-few {s} {k} h = omega (arith, apart-few (apart-none s k) (h .keeps) (once h))

@@ -6,39 +6,36 @@ use native.Mathlib.Decide.{decLt}
 use native.Mathlib.Omega.{arith}
 use lib.ListN.{length}
 use Rattle.format.specs.Header.{bucketField, buckets, directories, tablesFault}
-use Rattle.format.specs.Chain.{walkEnds, walkBucket}
-use Rattle.format.specs.Call.{check, checkBuckets, checked}
-use Rattle.format.specs.Words.{KeepsAt, KeepsBelow, NoneBelow, Holds, Breaks, Sound, HeldBefore, Lengths, sum, itself}
+use Rattle.format.specs.Chain.{chainOf, mostRecords, itself}
+use Rattle.format.specs.Answer.{accepted, refused}
+use Rattle.format.specs.Call.{check, checkBuckets}
+use Rattle.format.specs.Words.{KeepsAt, KeepsBelow, Holds, Breaks, Sound, HeldBefore, Lengths, sum}
 use Rattle.format.specs.declared.Fault.{Fault}
-use Rattle.format.specs.declared.Ending.the-variants.{Ended, Met, Broken, Stopped}
+use Rattle.format.specs.declared.Link.the-variants.{End, Broken, Record}
 use Rattle.format.specs.Laws.Faults.{kept-takes, broken-takes}
-use Rattle.format.specs.Laws.Links.{Repeat, once, never-breaks, keeps-named}
+use Rattle.format.specs.Laws.Along.{counted, after-is, holds-chain, breaks-chain, keeps-chain}
+use Rattle.format.specs.Laws.Links.{Repeat, once, never-breaks}
 use Rattle.format.specs.Laws.Apart.{Apart, visits, visits-length, apart-none, apart-length, apart-chain, apart-few}
-use Rattle.format.specs.Laws.Along.{walk-ends, walk-breaks, walk-lasts}
 
--- one bucket of the check, by the ending of its walk
-module _ (s : List ℕ) (n k o : ℕ) {p : ℕ} where
-  pub bucket-ended : walkBucket s [] k o ≡ walkEnds Ended p → checkBuckets (suc n) s k o ≡ checkBuckets n s (suc k) p
+-- one bucket of the check, by what comes after the m records of its chain
+module _ (s : List ℕ) (n k o : ℕ) {m : ℕ} (count : length (chainOf s k (mostRecords s - o) .records) ≡ m) where
+  pub bucket-ends : chainOf s k (mostRecords s - o) .after ≡ End → checkBuckets (suc n) s k o ≡ checkBuckets n s (suc k) (o + m)
   unfolding checkBuckets
-  bucket-ended e = rw (checkBuckets, e) (rw e)
+  bucket-ends e = rw (checkBuckets, e) (rw count)
 
-  pub bucket-met : {r : ℕ} → walkBucket s [] k o ≡ walkEnds (Met r) p → checkBuckets (suc n) s k o ≡ checkBuckets n s (suc k) p
+  pub bucket-breaks : {x p : ℕ} → chainOf s k (mostRecords s - o) .after ≡ Broken x p → checkBuckets (suc n) s k o ≡ refused x p (o + m + itself x)
   unfolding checkBuckets
-  bucket-met e = rw (checkBuckets, e) (rw e)
+  bucket-breaks e = rw (checkBuckets, e) (rw count)
 
-  pub bucket-broken : {x q : ℕ} → walkBucket s [] k o ≡ walkEnds (Broken x q) p → checkBuckets (suc n) s k o ≡ checked x q 0 0 p
+  pub bucket-goes-on : {r : ℕ} → chainOf s k (mostRecords s - o) .after ≡ Record r → checkBuckets (suc n) s k o ≡ refused 12 (bucketField s k) (o + m + 1)
   unfolding checkBuckets
-  bucket-broken e = rw (checkBuckets, e) (rw e)
-
-  pub bucket-endless : {f : ℕ} → walkBucket s [] k o ≡ walkEnds (Stopped f) p → checkBuckets (suc n) s k o ≡ checked 12 (bucketField s k) 0 0 p
-  unfolding checkBuckets
-  bucket-endless e = rw (checkBuckets, e) (rw e)
+  bucket-goes-on e = rw (checkBuckets, e) (rw count)
 
 pub check-sound : (s : List ℕ) → Sound s → check s ≡ checkBuckets (buckets s) s 0 0
 unfolding check
 check-sound s e = kept-takes (tablesFault s) _ _ e
 
-pub check-refuses : (s : List ℕ) {f : Fault} → tablesFault s ≡ f → (f .number ≡ 0 → ⊥) → check s ≡ checked (f .number) (f .place) 0 0 0
+pub check-refuses : (s : List ℕ) {f : Fault} → tablesFault s ≡ f → (f .number ≡ 0 → ⊥) → check s ≡ refused (f .number) (f .place) 0
 unfolding check
 check-refuses s {f} e some = rw e (broken-takes f _ _ some)
 
@@ -56,10 +53,6 @@ module _ {s : List ℕ} {k : ℕ} (held : HeldBefore s k) where
       go j (yes l) g = held .lower j l .1
       go j (no a) g = absurd (a g)
 
--- no record that keeps the rules bears the empty name
-pub none-empty : {s : List ℕ} {k n : ℕ} → KeepsBelow s k n → NoneBelow s [] k n
-none-empty keeps m l = keeps-named (keeps m l .1)
-
 module _ {s : List ℕ} (f : ℕ → ℕ) where
   -- the records of the first k chains lie apart
   pub chains : (k : ℕ) → Lengths s k f → (xs : List ℕ) × Apart s k xs × (length xs ≡ sum f k)
@@ -70,43 +63,43 @@ module _ {s : List ℕ} (f : ℕ → ℕ) where
       (visits s k (f k) xs, apart-chain a (h k (omega arith)), omega (arith, visits-length s k (f k) xs))
 
   -- with n more that keep the rules and do not repeat they are few
-  pub few : {k n : ℕ} → Lengths s k f → KeepsBelow s k n → (Repeat s k n → ⊥) → sum f k + n ≤ length s - 11
+  pub few : {k n : ℕ} → Lengths s k f → KeepsBelow s k n → (Repeat s k n → ⊥) → sum f k + n ≤ mostRecords s
   few {k} {n} h keeps never =
       let (xs, a, e) = chains k h in
       omega (arith, apart-few a keeps never)
 
-  pub total : {k : ℕ} → Lengths s k f → sum f k ≤ length s - 11
+  pub total : {k : ℕ} → Lengths s k f → sum f k ≤ mostRecords s
   total {k} h = let (xs, a, e) = chains k h in omega (arith, apart-length a)
 
-  module _ (long : 12 ≤ length s) where
-    check-along : (k m : ℕ) {N : ℕ} → N ≡ k + m → Lengths s k f → checkBuckets N s 0 0 ≡ checkBuckets m s k (sum f k)
-    unfolding sum
-    check-along zero m {N} e h = let a : N ≡ m = omega arith in rw a
-    check-along (suc k) m e h =
-        let g : Holds s k (f k) = h k (omega arith) in
-        let below : Lengths s k f = λ j l. h j (omega arith) in
-        let l : f k < length s - 10 - sum f k = omega (arith, few below (g .keeps) (once g)) in
-        check-along k (suc m) (omega arith) below ∙ bucket-ended s m k (sum f k) (walk-ends s [] k (sum f k) l g (none-empty (g .keeps)))
+  check-along : (k m : ℕ) {N : ℕ} → N ≡ k + m → Lengths s k f → checkBuckets N s 0 0 ≡ checkBuckets m s k (sum f k)
+  unfolding sum
+  check-along zero m {N} e h = let a : N ≡ m = omega arith in rw a
+  check-along (suc k) m e h =
+      let g : Holds s k (f k) = h k (omega arith) in
+      let below : Lengths s k f = λ j l. h j (omega arith) in
+      let l : f k ≤ mostRecords s - sum f k = omega (arith, few below (g .keeps) (once g)) in
+      let c = holds-chain s k l g in
+      check-along k (suc m) (omega arith) below ∙ bucket-ends s m k (sum f k) (counted s k _ c) (after-is c)
 
-    pub answers-accepted : Sound s → Lengths s (buckets s) f → check s ≡ checked 0 0 (directories s) (sum f (buckets s)) (sum f (buckets s))
-    unfolding checkBuckets
-    answers-accepted sound h = check-sound s sound ∙ check-along (buckets s) 0 {N = buckets s} (omega arith) h
+  pub answers-accepted : Sound s → Lengths s (buckets s) f → check s ≡ accepted (directories s) (sum f (buckets s))
+  unfolding checkBuckets
+  answers-accepted sound h = check-sound s sound ∙ check-along (buckets s) 0 {N = buckets s} (omega arith) h
 
-    -- the check comes to bucket k
-    check-to : {k : ℕ} → k < buckets s → Sound s → Lengths s k f → (m : ℕ) × (check s ≡ checkBuckets (suc m) s k (sum f k))
-    check-to {k} l sound h = (buckets s - suc k, check-sound s sound ∙ check-along k (suc (buckets s - suc k)) (omega arith) h)
+  -- the check comes to bucket k
+  check-to : {k : ℕ} → k < buckets s → Sound s → Lengths s k f → (m : ℕ) × (check s ≡ checkBuckets (suc m) s k (sum f k))
+  check-to {k} l sound h = (buckets s - suc k, check-sound s sound ∙ check-along k (suc (buckets s - suc k)) (omega arith) h)
 
-    pub answers-broken : {k n x p : ℕ} → k < buckets s → Sound s → Lengths s k f → Breaks s k n x p
-        → check s ≡ checked x p 0 0 (sum f k + n + itself x)
-    answers-broken {k} {n} l sound h b =
-        let (m, e) = check-to l sound h in
-        let g : n < length s - 10 - sum f k = omega (arith, few h (b .keeps) (λ c. never-breaks c b)) in
-        e ∙ bucket-broken s m k (sum f k) (walk-breaks s [] k (sum f k) g b (none-empty (b .keeps)))
+  pub answers-broken : {k n x p : ℕ} → k < buckets s → Sound s → Lengths s k f → Breaks s k n x p → check s ≡ refused x p (sum f k + n + itself x)
+  answers-broken {k} {n} l sound h b =
+      let (m, e) = check-to l sound h in
+      let g : n ≤ mostRecords s - sum f k = omega (arith, few h (b .keeps) (λ c. never-breaks c b)) in
+      let c = breaks-chain s k g b in
+      e ∙ bucket-breaks s m k (sum f k) (counted s k _ c) (after-is c)
 
-    pub answers-loop : {k : ℕ} → k < buckets s → Sound s → Lengths s k f → ((n : ℕ) → KeepsAt s k n)
-        → check s ≡ checked 12 (bucketField s k) 0 0 (length s - 10)
-    answers-loop {k} l sound h all =
-        let (m, e) = check-to l sound h in
-        let keeps : KeepsBelow s k (length s - 10 - sum f k) = λ n g. all n in
-        let total : sum f k + (length s - 10 - sum f k) ≡ length s - 10 = omega (arith, total h) in
-        e ∙ bucket-endless s m k (sum f k) (walk-lasts s [] k (sum f k) (length s - 10 - sum f k) keeps (none-empty keeps)) ∙ ap (checked 12 (bucketField s k) 0 0) total
+  pub answers-loop : {k : ℕ} → 12 ≤ length s → k < buckets s → Sound s → Lengths s k f → ((n : ℕ) → KeepsAt s k n)
+      → check s ≡ refused 12 (bucketField s k) (length s - 10)
+  answers-loop {k} long l sound h all =
+      let (m, e) = check-to l sound h in
+      let c = keeps-chain s k {N = mostRecords s - sum f k} (λ n g. all n) in
+      let opened : sum f k + (mostRecords s - sum f k) + 1 ≡ length s - 10 = omega (arith, total h) in
+      e ∙ bucket-goes-on s m k (sum f k) (counted s k _ c) (after-is c) ∙ ap (refused 12 (bucketField s k)) opened

@@ -1,7 +1,7 @@
 -- The check's answer in the words of demand 3, and demand 3.
-use Prim.Native.Nat.{ℕ, suc, _+_, _-_, _≤_, _<_}
-use mathlib.Core.Path.{_≡_, sym, ap, _∙_}
-use mathlib.Core.Logic.{_↔_, Iff·trans, ⊎-elim}
+use Prim.Native.Nat.{ℕ, _+_, _-_, _≤_, _<_}
+use mathlib.Core.Path.{_≡_, refl, sym, ap, _∙_}
+use mathlib.Core.Logic.{_↔_, Iff·trans}
 use mathlib.Core.List.{List}
 use mathlib.Core.Bool.{true}
 use native.Mathlib.Nat.{mod-lt}
@@ -10,18 +10,23 @@ use lib.ListN.{length}
 use Rattle.format.specs.Text.{hash, allowed}
 use Rattle.format.specs.Header.{buckets, bucketField, directories}
 use Rattle.format.specs.Record.{nameOf, bucketOf}
-use Rattle.format.specs.Call.{check, checked, lookup}
-use Rattle.format.specs.Words.{NoneBelow, OnChain, Holds, Breaks, Sound, Accepted, Loops, Lengths, sum, itself, CheckDemand, LookupKept, Demand3, CheckAnswers}
+use Rattle.format.specs.Chain.{itself}
+use Rattle.format.specs.Answer.{accepted, refused}
+use Rattle.format.specs.Call.{check, lookup}
+use Rattle.format.specs.Words.{NoneBelow, OnChain, Holds, Breaks, Sound, Accepted, Loops, Lengths, sum}
+use Rattle.format.specs.Demand.{CheckDemand, LookupKept, Demand3, CheckAnswers}
 use Rattle.format.specs.declared.CheckAnswer.{CheckAnswer}
 use Rattle.format.specs.Laws.Faults.{same-number}
+use Rattle.format.specs.Laws.Numbers.{never}
 use Rattle.format.specs.Laws.Header.{header-right}
 use Rattle.format.specs.Laws.Rules.{tables-right, tables-number}
+use Rattle.format.specs.Laws.Follow.{at-most-one}
 use Rattle.format.specs.Laws.Links.{on-chain, chain-on, one-step, keeps-bucket, never-breaks, broken-number}
-use Rattle.format.specs.Laws.Along.{at-most-one}
-use Rattle.format.specs.Laws.Course.{course}
 use Rattle.format.specs.Laws.Buckets.{lengths, few, total, check-refuses, answers-accepted, answers-broken, answers-loop}
-use Rattle.format.specs.Laws.Verdict.{Verdict, unsound, accepted, broken, looped, verdict, sound-long, turns-keep}
-use Rattle.format.specs.Laws.Lookup.{query-right, InChain, in-chain}
+use Rattle.format.specs.Laws.Verdict.{Verdict, unsound, right, broken, looped, verdict, sound-long, turns-keep}
+use Rattle.format.specs.Laws.Search.{sought}
+use Rattle.format.specs.Laws.Lookup.{query-allowed}
+use Rattle.format.specs.Laws.LookupAnswers.{InChain, in-chain}
 
 number : {a b : CheckAnswer} → a ≡ b → a .number ≡ b .number
 number e = ap (λ (a : CheckAnswer). a .number) e
@@ -30,20 +35,20 @@ opened : {a b : CheckAnswer} → a ≡ b → a .opened ≡ b .opened
 opened e = ap (λ (a : CheckAnswer). a .opened) e
 
 module _ {s : List ℕ} where
-  accepts : Accepted s → (f : ℕ → ℕ) → Lengths s (buckets s) f → check s ≡ checked 0 0 (directories s) (sum f (buckets s)) (sum f (buckets s))
-  accepts acc f h = answers-accepted f (sound-long s (acc .sound)) (acc .sound) h
+  accepts : Accepted s → (f : ℕ → ℕ) → Lengths s (buckets s) f → check s ≡ accepted (directories s) (sum f (buckets s))
+  accepts acc f h = answers-accepted f (acc .sound) h
 
-  breaks : {k n x p : ℕ} (f : ℕ → ℕ) → k < buckets s → Sound s → Lengths s k f → Breaks s k n x p → check s ≡ checked x p 0 0 (sum f k + n + itself x)
-  breaks f l sound h b = answers-broken f (sound-long s sound) l sound h b
+  breaks : {k n x p : ℕ} (f : ℕ → ℕ) → k < buckets s → Sound s → Lengths s k f → Breaks s k n x p → check s ≡ refused x p (sum f k + n + itself x)
+  breaks f l sound h b = answers-broken f l sound h b
 
-  loops : {k : ℕ} → Loops s k → check s ≡ checked 12 (bucketField s k) 0 0 (length s - 10)
+  loops : {k : ℕ} → Loops s k → check s ≡ refused 12 (bucketField s k) (length s - 10)
   loops l =
       let (f, h) = lengths (l .held) in
       answers-loop f (sound-long s (l .held .sound)) (l .bucket) (l .held .sound) h (turns-keep (l .turns))
 
   opens : Verdict s → check s .opened ≤ length s - 10
   opens (unsound e) = omega (arith, opened (check-refuses s e (λ z. omega arith)))
-  opens (accepted acc) =
+  opens (right acc) =
       let (f, h) = lengths acc in
       omega (arith, opened (accepts acc f h), total f h)
   opens (broken {x = x} l held b) =
@@ -54,14 +59,14 @@ module _ {s : List ℕ} where
   loop-of : Verdict s → check s .number ≡ 12 → (k : ℕ) × Loops s k
   loop-of (unsound e) q =
       let told = number (check-refuses s e (λ z. omega arith)) in
-      absurd (⊎-elim (λ l. omega (arith, same-number e)) (λ l. omega (arith, same-number e)) (tables-number s))
-  loop-of (accepted acc) q = let (f, h) = lengths acc in absurd (omega (arith, number (accepts acc f h)))
-  loop-of (broken l held b) q = let (f, h) = lengths held in absurd (omega (arith, number (breaks f l (held .sound) h b), broken-number b))
+      absurd (never 12 (tables-number s) refl (same-number e ∙ sym told ∙ q))
+  loop-of (right acc) q = let (f, h) = lengths acc in absurd (omega (arith, number (accepts acc f h)))
+  loop-of (broken l held b) q = let (f, h) = lengths held in absurd (never 12 (broken-number b) refl (sym (number (breaks f l (held .sound) h b)) ∙ q))
   loop-of (looped {k = k} l) q = (k, l)
 
   accepted-of : Verdict s → check s .number ≡ 0 → Accepted s
   accepted-of (unsound e) q = absurd (omega (arith, number (check-refuses s e (λ z. omega arith))))
-  accepted-of (accepted acc) q = acc
+  accepted-of (right acc) q = acc
   accepted-of (broken l held b) q = let (f, h) = lengths held in absurd (omega (arith, number (breaks f l (held .sound) h b), b .some))
   accepted-of (looped l) q = absurd (omega (arith, number (loops l)))
 
@@ -92,7 +97,7 @@ module _ {s : List ℕ} where
 
       found : (room n : ℕ) → allowed name ≡ true → Holds s (bucketOf s name) n → InChain s name (bucketOf s name) n (lookup s name room)
       found room n a h =
-          in-chain s name room (query-right s name a (tables-right s (acc .sound))) (sound-long s (acc .sound)) h (course s name (bucketOf s name) (suc n))
+          in-chain s name (rw (query-allowed s name a) (tables-right s (acc .sound))) room h (sought s name (bucketOf s name))
 
 pub check-answers : (s : List ℕ) → CheckAnswers s
 check-answers s = record {

@@ -1,18 +1,20 @@
--- What the directory calls answer, by the rule that is broken first, and that the part handed back lies inside.
-use Prim.Native.Nat.{ℕ, zero, suc, _+_, _-_, _≤_, _<_}
-use mathlib.Core.Path.{_≡_, refl, ap, _∙_}
+-- What the directory calls answer, by the rule that is broken first, and that the part handed back
+-- lies inside.
+use Prim.Native.Nat.{ℕ, zero, suc, _+_, _≤_, _<_}
+use mathlib.Core.Path.{_≡_, refl, _∙_}
 use mathlib.Core.List.{List}
-use mathlib.Core.Bool.{not, and-eq-true-iff}
+use mathlib.Core.Bool.{and-eq-true-iff}
 use native.Mathlib.Omega.{arith}
-use borrow.Author.Tests.{lt-ltb, le-ltb, not-false}
+use borrow.Author.Tests.{lt-ltb, le-ltb}
 use lib.ListN.{length, take, drop, length-drop}
 use lib.Dec.{ltb}
 use Rattle.format.specs.Number.{be}
 use Rattle.format.specs.Fault.{fault, ifKept}
 use Rattle.format.specs.Header.{directories, headerFault, pathField, pathPart, pathOf, pathRight, pathFault}
-use Rattle.format.specs.Call.{directoryFault, directoryPart, directoryPath, partIs}
+use Rattle.format.specs.Answer.{partIs}
+use Rattle.format.specs.Call.{directoryFault, directoryPart, directoryPath}
 use Rattle.format.specs.declared.Fault.{Fault}
-use Rattle.format.specs.Laws.Faults.{orElse-first, orElse-next, orElse-none, given-none, broken-speaks, kept-passes, broken-takes}
+use Rattle.format.specs.Laws.Faults.{orElse-first, orElse-next, orElse-none, unless-none, broken-speaks, kept-passes, broken-takes}
 use Rattle.format.specs.Laws.Strings.{string-front, whole-string}
 
 module _ (s : List ℕ) (i : ℕ) where
@@ -23,11 +25,11 @@ module _ (s : List ℕ) (i : ℕ) where
   module _ (header : headerFault s .number ≡ 0) where
     pub directory-beyond : directories s ≤ i → directoryFault s i ≡ fault 15 0
     unfolding directoryFault
-    directory-beyond h = orElse-next _ _ header ∙ broken-speaks (not (ltb i (directories s))) _ _ _ (ap not (le-ltb _ _ h))
+    directory-beyond h = orElse-next _ _ header ∙ broken-speaks (ltb i (directories s)) _ _ _ (le-ltb _ _ h)
 
     pub directory-path : i < directories s → directoryFault s i ≡ pathFault s i
     unfolding directoryFault
-    directory-path h = orElse-next _ _ header ∙ kept-passes (not (ltb i (directories s))) _ _ _ (ap not (lt-ltb _ _ h))
+    directory-path h = orElse-next _ _ header ∙ kept-passes (ltb i (directories s)) _ _ _ (lt-ltb _ _ h)
 
   pub part-refused : {f : Fault} → directoryFault s i ≡ f → (f .number ≡ 0 → ⊥) → directoryPart s i ≡ partIs (f .number) (f .place) 0 0
   unfolding directoryPart
@@ -43,7 +45,7 @@ module _ (s : List ℕ) (i : ℕ) where
   unfolding directoryFault pathFault
   path-ends e =
       let kept = orElse-none _ _ (orElse-none _ _ (orElse-none _ _ e .1) .1) .0 in
-      let right = not-false _ (given-none (not (pathRight s i)) 5 (pathField s i) kept) in
+      let right = unless-none (pathRight s i) 5 (pathField s i) kept in
       whole-string 1023 (pathPart s i) (and-eq-true-iff _ _ .0 right .0) .ended
 
   pub part-inside : directoryPart s i .start + directoryPart s i .length ≤ length s

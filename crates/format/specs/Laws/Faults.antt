@@ -1,9 +1,9 @@
--- Judgements put one after the other: which of them speaks, what follows when none does, and what the number can be.
-use Prim.Native.Nat.{ℕ, zero, suc, _≤_, zero-le}
+-- Judgements put one after the other: which of them speaks, and what follows when none does.
+use Prim.Native.Nat.{ℕ, zero, suc}
 use mathlib.Core.Path.{_≡_, refl, ap}
 use mathlib.Core.Bool.{Bool, true, false}
 use native.Mathlib.Omega.{arith}
-use Rattle.format.specs.Fault.{fault, given, _orElse_, ifKept}
+use Rattle.format.specs.Fault.{fault, unless, _orElse_, ifKept}
 use Rattle.format.specs.declared.Fault.{Fault}
 
 pub same-number : {x y : Fault} → x ≡ y → x .number ≡ y .number
@@ -30,38 +30,18 @@ orElse-none x y h = go (x .number) refl
         let broken : x .number ≡ 0 → ⊥ = λ z. omega arith in
         absurd (broken (rw (orElse-first x y broken) at h))
 
-pub given-none : (b : Bool) (n p : ℕ) → given b (suc n) p .number ≡ 0 → b ≡ false
-given-none true n p h = absurd (omega arith)
-given-none false n p h = refl
+pub unless-none : (b : Bool) (n p : ℕ) → unless b (suc n) p .number ≡ 0 → b ≡ true
+unless-none true n p h = refl
+unless-none false n p h = absurd (omega arith)
 
 -- a rule that is broken speaks, and one that is kept leaves the word to the next
-pub broken-speaks : (b : Bool) (n p : ℕ) (y : Fault) → b ≡ true → given b (suc n) p orElse y ≡ fault (suc n) p
+pub broken-speaks : (b : Bool) (n p : ℕ) (y : Fault) → b ≡ false → unless b (suc n) p orElse y ≡ fault (suc n) p
 unfolding _orElse_
 broken-speaks b n p y e = rw e
 
-pub kept-passes : (b : Bool) (n p : ℕ) (y : Fault) → b ≡ false → given b n p orElse y ≡ y
+pub kept-passes : (b : Bool) (n p : ℕ) (y : Fault) → b ≡ true → unless b n p orElse y ≡ y
 unfolding _orElse_
 kept-passes b n p y e = rw e
-
--- what holds of each rule's number, and of 0, holds of the number of the judgement
-module _ (P : ℕ → Type 0) where
-  pub given-all : (b : Bool) (n p : ℕ) → P 0 → P n → P (given b n p .number)
-  given-all true n p z h = h
-  given-all false n p z h = z
-
-  pub orElse-all : (x y : Fault) → P (x .number) → P (y .number) → P ((x orElse y) .number)
-  orElse-all x y h g = go (x .number) refl
-    where
-      go : (n : ℕ) → x .number ≡ n → P ((x orElse y) .number)
-      go zero e = rw (orElse-next x y e) g
-      go (suc n) e = rw (orElse-first x y (λ z. omega arith)) h
-
--- so a bound on each number bounds it
-pub given-most : (m : ℕ) (b : Bool) (n p : ℕ) → n ≤ m → given b n p .number ≤ m
-given-most m b n p h = given-all (λ (k : ℕ). k ≤ m) b n p zero-le h
-
-pub orElse-most : (m : ℕ) (x y : Fault) → x .number ≤ m → y .number ≤ m → (x orElse y) .number ≤ m
-orElse-most m x y h g = orElse-all (λ (k : ℕ). k ≤ m) x y h g
 
 pub kept-takes : {A : Type 0} (x : Fault) (a b : A) → x .number ≡ 0 → ifKept x a b ≡ a
 kept-takes x a b e = rw e

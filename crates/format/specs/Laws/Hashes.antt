@@ -1,4 +1,5 @@
--- What a byte counts as, the hash of the first bytes of a name and what one byte more makes of it, and the bucket that it gives.
+-- What a byte counts as, the hash of the first bytes of a name and what one byte more makes of it,
+-- and the bucket that it gives.
 use Prim.Native.Nat.{ℕ, zero, suc, _+_, _-_, _*_, _%_, _^_, _<_}
 use mathlib.Core.Path.{_≡_, refl, ap, _∙_}
 use mathlib.Core.List.{List, [], _∷_, map}
@@ -13,14 +14,15 @@ use Rattle.format.specs.Choice.{if_then_else_}
 use Rattle.format.specs.Text.{string, signed, hashFrom, hashNumbers, hash, allowed}
 use Rattle.format.specs.Header.{buckets}
 use Rattle.format.specs.Record.{bucketOf}
-use Rattle.format.specs.Laws.Strings.{allowed-string, allowed-short}
+use Rattle.format.specs.Laws.Names.{allowed-string, allowed-short}
 
 -- 127 counts as 127, 128 as -128 and 255 as -1
 ends : T (eqb (signed 127) 127 && eqb (signed 128) (2 ^ 32 - 128) && eqb (signed 255) (2 ^ 32 - 1))
 unfolding signed
 ends = tt
 
--- request 1's example, the two bytes of é, now and before; and the first of them alone, which is signed too
+-- request 1's example, the two bytes of é, now and before; and the first of them alone, which is
+-- signed too
 accented : T (eqb (hash (0xC3 ∷ 0xA9 ∷ [])) 4294965318 && eqb (hashNumbers (0xC3 ∷ 0xA9 ∷ [])) 6214 && eqb (hash (0xC3 ∷ [])) 4294967235)
 unfolding hash hashNumbers hashFrom signed
 accented = tt
@@ -29,7 +31,8 @@ signed-low : (b : ℕ) → b < 128 → signed b ≡ b
 unfolding signed
 signed-low b l = rw (lt-ltb b 128 l)
 
--- the signed number is below 2^32; raised by 128 and wrapped, it is the byte raised by 128 and wrapped
+-- the signed number is below 2^32; raised by 128 and wrapped, it is the byte raised by 128 and
+-- wrapped
 pub signed-raised : (b : ℕ) → b < 256 → (signed b < 2 ^ 32) × ((signed b + 128) % 2 ^ 32 ≡ (b + 128) % 2 ^ 8)
 unfolding signed
 signed-raised b l = go (ltb b 128) refl

@@ -1,13 +1,14 @@
--- What a header that breaks none of the rules 1 to 5 tells, and which numbers a header can be refused with.
+-- What a header that breaks none of the rules 1 to 5 tells, and which numbers a header can be
+-- refused with.
 use Prim.Native.Nat.{ℕ, _+_, _*_, _≤_, _<_}
 use mathlib.Core.Path.{_≡_}
 use mathlib.Core.List.{List}
 use mathlib.Core.Bool.{and-eq-true-iff}
-use borrow.Author.Tests.{ltb-false, ltb-true, leb-true, not-false}
+use borrow.Author.Tests.{ltb-true, leb-true}
 use lib.ListN.{length}
-use lib.Dec.{lit≤}
 use Rattle.format.specs.Header.{headerFault, hashAt, buckets, directoriesAt, directories}
-use Rattle.format.specs.Laws.Faults.{orElse-none, orElse-most, given-none, given-most}
+use Rattle.format.specs.Laws.Faults.{orElse-none, unless-none}
+use Rattle.format.specs.Laws.Numbers.{OneOf, headerNumbers, unless-one, orElse-one}
 use Rattle.format.specs.Laws.Reads.{list-ends}
 
 -- where the tables end, and how many entries they have
@@ -26,17 +27,17 @@ header-right s h =
     let after2 = orElse-none _ _ (after1 .1) in
     let after3 = orElse-none _ _ (after2 .1) in
     let after4 = orElse-none _ _ (after3 .1) in
-    let list = and-eq-true-iff _ _ .0 (not-false _ (given-none _ _ _ (after4 .0))) in
-    let hash = and-eq-true-iff _ _ .0 (not-false _ (given-none _ _ _ (after4 .1))) in
+    let list = and-eq-true-iff _ _ .0 (unless-none _ _ _ (after4 .0)) in
+    let hash = and-eq-true-iff _ _ .0 (unless-none _ _ _ (after4 .1)) in
     record {
-      header-inside = ltb-false _ _ (given-none _ _ _ (after1 .0));
-      not-too-long = ltb-false _ _ (given-none _ _ _ (after2 .0));
+      header-inside = leb-true _ _ (unless-none _ _ _ (after1 .0));
+      not-too-long = leb-true _ _ (unless-none _ _ _ (after2 .0));
       directories-end = list-ends _ _ _ (list .0);
       directories-few = leb-true _ _ (list .1);
       buckets-end = list-ends _ _ _ (hash .0);
       buckets-some = ltb-true _ _ (hash .1);
     }
 
-pub header-number : (s : List ℕ) → headerFault s .number ≤ 5
+pub header-number : (s : List ℕ) → OneOf headerNumbers (headerFault s .number)
 unfolding headerFault
-header-number s = search (orElse-most, given-most, lit≤) depth 8
+header-number s = search (orElse-one, unless-one) depth 8

@@ -2,7 +2,7 @@
 use Prim.Native.Nat.{ℕ, zero, suc, _+_, _≤_}
 use mathlib.Core.Path.{_≡_, refl}
 use mathlib.Core.List.{List, [], _∷_}
-use mathlib.Core.Bool.{true, false, not}
+use mathlib.Core.Bool.{true, false}
 use native.Mathlib.Nat.{suc-add}
 use native.Mathlib.Numerals.{add-one}
 use native.Mathlib.Omega.{arith}
@@ -17,13 +17,13 @@ module _ (s : List ℕ) (p n : ℕ) where
   unfolding imagesFault
   images-end e = rw e
 
-  pub images-stop : (m : ℕ) → n ≡ m + 1 → not (imageRight s p) ≡ true → imagesFault n s p ≡ fault 11 p
+  pub images-stop : (m : ℕ) → n ≡ m + 1 → imageRight s p ≡ false → imagesFault n s p ≡ fault 11 p
   unfolding imagesFault
-  images-stop m e broken = rw (e, add-one m) (broken-speaks (not (imageRight s p)) _ _ _ broken)
+  images-stop m e broken = rw (e, add-one m) (broken-speaks (imageRight s p) _ _ _ broken)
 
-  pub images-go-on : (m : ℕ) → n ≡ m + 1 → not (imageRight s p) ≡ false → imagesFault n s p ≡ imagesFault m s (p + 8)
+  pub images-go-on : (m : ℕ) → n ≡ m + 1 → imageRight s p ≡ true → imagesFault n s p ≡ imagesFault m s (p + 8)
   unfolding imagesFault
-  images-go-on m e kept = rw (e, add-one m) (kept-passes (not (imageRight s p)) _ _ _ kept)
+  images-go-on m e kept = rw (e, add-one m) (kept-passes (imageRight s p) _ _ _ kept)
 
 -- two words stored side by side, and what stood after them
 pub two-stored : (ws : List ℕ) (i a b : ℕ) → i + 2 ≤ length ws → drop i (set (set ws i a) (i + 1) b) ≡ a ∷ b ∷ drop (i + 2) ws

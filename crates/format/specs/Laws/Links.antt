@@ -1,21 +1,21 @@
--- Chains as sequences of links: where a chain that holds ends, and that a chain that repeats goes on for ever.
+-- Chains as sequences of links: where a chain that holds ends, and that a chain that repeats goes
+-- on for ever.
 use Prim.Native.Nat.{ℕ, zero, suc, _+_, _*_, _≤_, _<_}
 use mathlib.Core.Path.{_≡_, refl, sym, ap, _∙_}
-use mathlib.Core.Logic.{inl, inr}
-use mathlib.Core.List.{List, []}
-use native.Mathlib.Decide.{ℕ-discrete, decLe}
+use mathlib.Core.List.{List}
+use native.Mathlib.Decide.{ℕ-discrete}
 use native.Mathlib.Nat.{le-antisymm}
 use native.Mathlib.Omega.{arith}
-use borrow.Author.Tests.{le-leb, lt-leb}
 use lib.ListN.{length}
+use Rattle.format.specs.Layout.{endValue}
 use Rattle.format.specs.Number.{be}
-use Rattle.format.specs.Fault.{fault, noFault}
-use Rattle.format.specs.Header.{endValue}
-use Rattle.format.specs.Record.{recordFault, nameOf, bucketOf, imagesAt, images}
-use Rattle.format.specs.Words.{link, linkField, Inside, Keeps, KeepsAt, KeepsBelow, Holds, Breaks, OnChain}
+use Rattle.format.specs.Record.{nameOf, bucketOf, imagesAt, images}
+use Rattle.format.specs.Words.{link, linkField, Keeps, KeepsAt, KeepsBelow, Holds, Breaks, OnChain}
 use Rattle.format.specs.Laws.Below.{le-unless, lt-unless}
-use Rattle.format.specs.Laws.Faults.{same-number, orElse-next, orElse-first}
-use Rattle.format.specs.Laws.Rules.{record-right, record-number}
+use Rattle.format.specs.Laws.Faults.{same-number}
+use Rattle.format.specs.Laws.Numbers.{OneOf, linkNumbers}
+use Rattle.format.specs.Laws.Rules.{record-right}
+use Rattle.format.specs.Laws.Follow.{link-number, keeps-link}
 
 -- two steps below n name one record
 pub record Repeat (s : List ℕ) (k n : ℕ) : Type 0 where
@@ -33,29 +33,13 @@ keeps-bucket {s} {k} {r} h = record-right s k r (h .rules) .home
 pub keeps-listed : {s : List ℕ} {k r : ℕ} → Keeps s k r → imagesAt s r + 4 + 8 * images s r ≤ length s
 keeps-listed {s} {k} {r} h = record-right s k r (h .rules) .listed
 
--- its name is not empty
-pub keeps-named : {s : List ℕ} {k r : ℕ} → Keeps s k r → nameOf s r ≡ [] → ⊥
-keeps-named {s} {k} {r} h = record-right s k r (h .rules) .has-name
-
 module _ {s : List ℕ} {k n x p : ℕ} (b : Breaks s k n x p) where
-  -- a record that lies inside and breaks a rule breaks one of 8 to 11
-  pub broken-inside : Inside s (link s k n) → recordFault s k (link s k n) ≡ fault x p
-  broken-inside h = sym (orElse-next noFault (recordFault s k (link s k n)) refl) ∙ rw (le-leb (link s k n + 12) (length s) h) at (b .broken)
-
-  pub broken-outside : (Inside s (link s k n) → ⊥) → fault 7 (linkField s k n) ≡ fault x p
-  broken-outside out =
-      sym (orElse-first (fault 7 (linkField s k n)) (recordFault s k (link s k n)) (λ z. omega arith))
-      ∙ rw (lt-leb (link s k n + 12) (length s) (omega arith)) at (b .broken)
-
   -- a record that keeps the rules breaks none
   broken-keeps : Keeps s k (link s k n) → ⊥
-  broken-keeps h = omega (arith, h .rules, same-number (broken-inside (h .inside)), b .some)
+  broken-keeps h = omega (arith, keeps-link s k (linkField s k n) _ h, same-number (b .broken), b .some)
 
-  pub broken-number : x ≤ 11
-  broken-number = elim (decLe (link s k n + 12) (length s)) [
-    | no out ↦ omega (arith, same-number (broken-outside out))
-    | yes h ↦ let e = same-number (broken-inside h) in elim (record-number s k (link s k n)) [ inl z ↦ omega arith | inr g ↦ omega arith ]
-  ]
+  pub broken-number : OneOf linkNumbers x
+  broken-number = rw (same-number (b .broken)) at (link-number s k (linkField s k n) (link s k n))
 
 module _ {s : List ℕ} {k n : ℕ} (c : Repeat s k n) where
   -- each step names a record that an earlier one below the repeat names
@@ -69,11 +53,11 @@ module _ {s : List ℕ} {k n : ℕ} (c : Repeat s k n) where
         | no a ↦ (suc i, omega arith, ap (be 4 s) e)
       ]
 
-  pub goes-on : KeepsBelow s k n → (m : ℕ) → KeepsAt s k m
-  goes-on keeps m = let (i, l, e) = earlier m in rw e (keeps i (omega arith))
+  pub round : KeepsBelow s k n → (m : ℕ) → KeepsAt s k m
+  round keeps m = let (i, l, e) = earlier m in rw e (keeps i (omega arith))
 
   pub never-breaks : {x p : ℕ} → Breaks s k n x p → ⊥
-  never-breaks b = broken-keeps b (goes-on (b .keeps) n .1)
+  never-breaks b = broken-keeps b (round (b .keeps) n .1)
 
 module _ {s : List ℕ} {k n : ℕ} (h : Holds s k n) where
   -- records that keep the rules come before the end
@@ -98,7 +82,7 @@ module _ {s : List ℕ} {k n : ℕ} (h : Holds s k n) where
 
   -- no record twice
   pub once : Repeat s k n → ⊥
-  once c = goes-on c (h .keeps) n .0 (h .ends)
+  once c = round c (h .keeps) n .0 (h .ends)
 
   once-le : {i j : ℕ} → j < n → link s k j ≡ link s k i → j ≤ i
   once-le {i} {j} l e = le-unless (λ g. once (record { first = i; second = j; order = g; below = l; same = e }))

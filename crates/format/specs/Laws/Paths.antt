@@ -2,7 +2,7 @@
 use Prim.Native.Nat.{ℕ, zero, suc, _+_, _<_}
 use mathlib.Core.Path.{_≡_, refl, _∙_}
 use mathlib.Core.List.{List, [], _∷_}
-use mathlib.Core.Bool.{true, false, not, and-false}
+use mathlib.Core.Bool.{true, false, and-false}
 use native.Mathlib.Numerals.{add-one}
 use native.Mathlib.Omega.{arith}
 use borrow.Author.Tests.{eq-eqb, ne-eqb}
@@ -24,23 +24,23 @@ string-first (suc b ∷ t) = refl
 module _ (s : List ℕ) (i : ℕ) where
   pub path-not-whole : isWhole (text 1023 (pathPart s i)) ≡ false → pathFault s i ≡ fault 6 (pathField s i)
   unfolding pathFault
-  path-not-whole e = broken-speaks (not (pathRight s i)) _ _ _ (rw e)
+  path-not-whole e = broken-speaks (pathRight s i) _ _ _ (rw e)
 
   pub path-absolute : getD (pathPart s i) 0 0 ≡ slash → pathFault s i ≡ fault 6 (pathField s i)
   unfolding pathFault
-  path-absolute e = broken-speaks (not (pathRight s i)) _ _ _ (rw (string-first, eq-eqb _ _ e, and-false))
+  path-absolute e = broken-speaks (pathRight s i) _ _ _ (rw (string-first, eq-eqb _ _ e, and-false))
 
   module _ (whole : isWhole (text 1023 (pathPart s i)) ≡ true) (relative : getD (pathPart s i) 0 0 ≡ slash → ⊥) where
-    rule-6-kept : not (pathRight s i) ≡ false
+    rule-6-kept : pathRight s i ≡ true
     rule-6-kept = rw (whole, string-first, ne-eqb _ _ relative)
 
     pub path-segments : segmentsRight (pathOf s i) ≡ false → pathFault s i ≡ fault 16 (pathField s i)
     unfolding pathFault
-    path-segments e = kept-passes (not (pathRight s i)) _ _ _ rule-6-kept ∙ rw e
+    path-segments e = kept-passes (pathRight s i) _ _ _ rule-6-kept ∙ rw e
 
     pub path-kept : segmentsRight (pathOf s i) ≡ true → pathFault s i ≡ noFault
     unfolding pathFault
-    path-kept e = kept-passes (not (pathRight s i)) _ _ _ rule-6-kept ∙ rw e
+    path-kept e = kept-passes (pathRight s i) _ _ _ rule-6-kept ∙ rw e
 
 -- n paths from directory i on: none is left, the first breaks a rule, or it keeps both
 pub paths-end : (s : List ℕ) (i n : ℕ) → n ≡ 0 → pathsFault n s i ≡ noFault

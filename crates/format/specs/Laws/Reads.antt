@@ -1,4 +1,5 @@
--- How a number read at one width is made of numbers read at narrower ones, and where the entries of a list that lies inside end.
+-- How a number read at one width is made of numbers read at narrower ones, and where the entries of
+-- a list that lies inside end.
 use Prim.Native.Nat.{ℕ, zero, suc, _+_, _*_, _^_, _≤_}
 use mathlib.Core.Path.{_≡_}
 use mathlib.Core.List.{List}

@@ -1,4 +1,5 @@
--- Laws of a path's segments: that each is judged where it ends, and that they are the path cut at its slashes.
+-- Laws of a path's segments: that each is judged where it ends, and that they are the path cut at
+-- its slashes.
 use Prim.Native.Nat.{ℕ, zero, suc}
 use mathlib.Core.Path.{_≡_, refl, ap, sym, _∙_}
 use mathlib.Core.List.{List, [], _∷_, _++_, append-nil}
@@ -23,7 +24,8 @@ first (b ∷ t) = go (eqb b slash) (first t)
     go true {ps} f = some [] ps
     go false (some p ps) = some (b ∷ p) ps
 
--- the segments of two paths with a slash between them are those of the one and then those of the other
+-- the segments of two paths with a slash between them are those of the one and then those of the
+-- other
 segments-append : (a t : List ℕ) → segments (a ++ slash ∷ t) ≡ segments a ++ segments t
 unfolding segments
 segments-append [] t = refl
@@ -68,7 +70,8 @@ last-right p h = rw (free-segment p h) (and-true (segmentRight p))
 pub first-right : (p t : List ℕ) → NoSlash p → segmentsRight (p ++ slash ∷ t) ≡ (segmentRight p && segmentsRight t)
 first-right p t h = rw (slash-between p t, last-right p h)
 
--- Cutting at the slashes, said apart from how it is done: the pieces, each after a slash, are the path after a slash, and no piece holds one.
+-- Cutting at the slashes, said apart from how it is done: the pieces, each after a slash, are the
+-- path after a slash, and no piece holds one.
 abbrev pub together : List (List ℕ) → List ℕ
 together [] = []
 together (p ∷ ps) = slash ∷ (p ++ together ps)

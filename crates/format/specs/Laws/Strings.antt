@@ -2,15 +2,15 @@
 use Prim.Native.Nat.{ℕ, zero, suc, _+_, _≤_, _<_, zero-le, suc-le-suc}
 use mathlib.Core.Path.{_≡_, refl, ap, sym, _∙_}
 use mathlib.Core.List.{List, [], _∷_}
-use mathlib.Core.Bool.{Bool, true, false, _&&_, false≢true, and-eq-true-iff}
+use mathlib.Core.Bool.{Bool, true, false, false≢true}
 use native.Mathlib.Numerals.{add-one}
 use native.Mathlib.Omega.{arith}
 use borrow.Author.Tests.{lt-ltb, le-ltb, le-leb, lt-leb, ne-eqb, ltb-true, ltb-false, leb-true, leb-false, eqb-true, eqb-false}
 use lib.ListN.{length, take, drop, getD, List·getD-eq-default}
-use lib.Seq.{take-all, take-length, take-take}
+use lib.Seq.{take-all, take-take}
 use lib.Dec.{ltb, leb, eqb}
 use Rattle.format.specs.Choice.{if_then_else_}
-use Rattle.format.specs.Text.{string, ended, text, isWhole, allowed}
+use Rattle.format.specs.Text.{string, ended, text, isWhole}
 use Rattle.format.specs.declared.Text.{Text}
 use Rattle.format.specs.declared.Text.the-variants.{Whole, Empty, Long, Cut}
 
@@ -33,7 +33,8 @@ string-goes-on (zero ∷ t) zero nz = absurd (nz refl)
 string-goes-on (suc b ∷ t) zero nz = refl
 string-goes-on (b ∷ t) (suc i) nz = rw add-one (rw add-one at (string-goes-on t i nz))
 
--- i bytes of the string are passed: these and those of the string of the rest are together as many as the whole string's
+-- i bytes of the string are passed: these and those of the string of the rest are together as many
+-- as the whole string's
 abbrev pub Passed : List ℕ → ℕ → Type 0
 Passed t i = i + length (string (drop i t)) ≡ length (string t)
 
@@ -143,16 +144,3 @@ whole-string limit t e = go (judged limit t) e
 -- so as many bytes as the limit allows are all of it
 pub whole-within : (limit : ℕ) (t : List ℕ) → isWhole (text limit t) ≡ true → take limit (string t) ≡ string t
 whole-within limit t e = take-all limit (string t) (whole-string limit t e .within)
-
--- a name that may be asked for is its own string, since no zero byte cuts it, and it is not too long
-pub allowed-string : (name : List ℕ) → allowed name ≡ true → string name ≡ name
-unfolding allowed
-allowed-string name e =
-    let same : length (string name) ≡ length name = eqb-true _ _ (and-eq-true-iff (ltb 0 (length name) && leb (length name) 255) _ .0 e .1) in
-    sym (string-front name) ∙ rw same (take-length name)
-
-pub allowed-short : (name : List ℕ) → allowed name ≡ true → length name ≤ 255
-unfolding allowed
-allowed-short name e =
-    let sized = and-eq-true-iff (ltb 0 (length name) && leb (length name) 255) _ .0 e .0 in
-    leb-true _ _ (and-eq-true-iff (ltb 0 (length name)) _ .0 sized .1)

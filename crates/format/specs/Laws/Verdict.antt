@@ -2,24 +2,25 @@
 use Prim.Native.Nat.{ℕ, zero, suc, _-_, _≤_, _<_}
 use mathlib.Core.Path.{_≡_, refl}
 use mathlib.Core.Logic.{_⊎_, inl, inr}
-use mathlib.Core.List.{List, []}
+use mathlib.Core.List.{List}
 use native.Mathlib.Nat.{le-refl}
 use native.Mathlib.Omega.{arith}
 use lib.ListN.{length}
 use Rattle.format.specs.Fault.{fault}
 use Rattle.format.specs.Header.{buckets, tablesFault}
+use Rattle.format.specs.Chain.{mostRecords}
 use Rattle.format.specs.Words.{KeepsAt, KeepsBelow, Breaks, Turns, Sound, HeldBefore, Accepted, Loops, Lengths, sum}
 use Rattle.format.specs.Laws.Below.{below-suc}
 use Rattle.format.specs.Laws.Header.{header-right}
 use Rattle.format.specs.Laws.Rules.{tables-right}
-use Rattle.format.specs.Laws.Links.{goes-on, keeps-named}
+use Rattle.format.specs.Laws.Links.{round}
 use Rattle.format.specs.Laws.Apart.{repeats}
-use Rattle.format.specs.Laws.Course.{Course, ends, meets, breaks, lasts, course}
+use Rattle.format.specs.Laws.Course.{Course, ends, breaks, goes-on, course}
 use Rattle.format.specs.Laws.Buckets.{lengths, chains}
 
 pub data Verdict (s : List ℕ) : Type 0 where
   unsound : {x p : ℕ} → tablesFault s ≡ fault (suc x) p → Verdict s
-  accepted : Accepted s → Verdict s
+  right : Accepted s → Verdict s
   broken : {k n x p : ℕ} → k < buckets s → HeldBefore s k → Breaks s k n x p → Verdict s
   looped : {k : ℕ} → Loops s k → Verdict s
 
@@ -33,18 +34,17 @@ pub turns-keep : {s : List ℕ} {k : ℕ} → Turns s k → (n : ℕ) → KeepsA
 turns-keep t n = (t .endless n .0, t .keeps n)
 
 -- a chain with more records that keep the rules than there can be goes on for ever
-endless : {s : List ℕ} {k : ℕ} (f : ℕ → ℕ) → 12 ≤ length s → Lengths s k f → KeepsBelow s k (length s - 10 - sum f k) → (n : ℕ) → KeepsAt s k n
-endless {s} {k} f long h keeps = let (xs, a, e) = chains f k h in let g = rw (← e) at keeps in goes-on (repeats long a g) g
+endless : {s : List ℕ} {k : ℕ} (f : ℕ → ℕ) → Lengths s k f → KeepsBelow s k (suc (mostRecords s - sum f k)) → (n : ℕ) → KeepsAt s k n
+endless {s} {k} f h keeps = let (xs, a, e) = chains f k h in round (repeats a (omega arith) keeps) keeps
 
 module _ (s : List ℕ) (sound : Sound s) where
   next : {k : ℕ} → k < buckets s → HeldBefore s k → HeldBefore s (suc k) ⊎ Verdict s
-  next {k} l held = let (f, h) = lengths held in go f h (course s [] k (length s - 10 - sum f k))
+  next {k} l held = let (f, h) = lengths held in go f h (course s k (mostRecords s - sum f k))
     where
-      go : (f : ℕ → ℕ) → Lengths s k f → Course s [] k (length s - 10 - sum f k) → HeldBefore s (suc k) ⊎ Verdict s
-      go f h (ends {n = n} g c none) = inl (record { sound = sound; lower = below-suc (held .lower) (n, c) })
-      go f h (meets {n = n} g keeps none here same) = absurd (keeps-named (here .1) same)
-      go f h (breaks g b none) = inr (broken l held b)
-      go f h (lasts keeps none) = inr (looped (record { bucket = l; held = held; turns = turns (endless f (sound-long s sound) h keeps) }))
+      go : (f : ℕ → ℕ) → Lengths s k f → Course s k (mostRecords s - sum f k) → HeldBefore s (suc k) ⊎ Verdict s
+      go f h (ends {n = n} g c) = inl (record { sound = sound; lower = below-suc (held .lower) (n, c) })
+      go f h (breaks g b) = inr (broken l held b)
+      go f h (goes-on keeps) = inr (looped (record { bucket = l; held = held; turns = turns (endless f h keeps) }))
 
   through : (k : ℕ) → k ≤ buckets s → HeldBefore s k ⊎ Verdict s
   through zero l = inl (record { sound = sound; lower = λ j g. absurd (omega arith) })
@@ -54,5 +54,5 @@ pub verdict : (s : List ℕ) → Verdict s
 verdict s = go (tablesFault s .number) refl
   where
     go : (m : ℕ) → tablesFault s .number ≡ m → Verdict s
-    go zero e = elim (through s e (buckets s) (le-refl (buckets s))) [ inl held ↦ accepted held | inr v ↦ v ]
+    go zero e = elim (through s e (buckets s) (le-refl (buckets s))) [ inl held ↦ right held | inr v ↦ v ]
     go (suc x) e = unsound {x = x} {p = tablesFault s .place} (rw (← e))

@@ -1,5 +1,6 @@
--- `icon_cache::check` meets its contract: a broken rule of the header, then one of a path, is the first of the rules 1 to 6 and 16 that is broken
--- (`tables-header`, `tables-paths`), and without one the buckets decide (`check-sound`).
+-- `icon_cache::check` meets its contract: a broken rule of the header, then one of a path, is the
+-- first of the rules 1 to 6 and 16 that is broken (`tables-header`, `tables-paths`), and without
+-- one the buckets decide (`check-sound`).
 use Prim.Native.Nat.{ℕ}
 use mathlib.Core.Path.{_≡_, sym, _∙_}
 use mathlib.Core.List.{List}
@@ -7,31 +8,21 @@ use borrow.Author.Needs.{needs}
 use denote.Ref.{now}
 use Rattle.format.specs.Header.{headerFault}
 use Rattle.format.specs.Call.{check}
-use Rattle.format.specs.Words.{CheckDemand}
+use Rattle.format.specs.Demand.{CheckDemand}
 use Rattle.format.specs.declared.CheckAnswer.{CheckAnswer}
 use Rattle.format.specs.Laws.Faults.{same-number}
 use Rattle.format.specs.Laws.Rules.{tables-header, tables-paths}
 use Rattle.format.specs.Laws.Buckets.{check-sound, check-refuses}
 use Rattle.format.specs.Laws.Demand.{check-demand}
-use Rattle.tables.specs.Tables.{Right}
 use Rattle.icon_cache.proofs.check.Statement.{statement}
 use Rattle.icon_cache.proofs.check.Tie as tie
-
-header-requires : tie.Need-header-requires
-header-requires c κs = search needs
 
 header-kept : (c : tie.Else1) → headerFault (now (c .before .before .before .before .args .cache)) .number ≡ 0
 header-kept c = rw (c .before .before .header .ensures) at (c .if1 .left)
 
-right : (c : tie.After-read) → Right (now (c .before .before .before .before .before .args .cache)) (c .read .result)
-right c = record { header = header-kept (c .before); tables = c .read .ensures }
-
 -- what equals the definition's answer meets demand 3
 meets : (s : List ℕ) {a : CheckAnswer} → a ≡ check s → (a ≡ check s) × CheckDemand s a
 meets s e = (e, rw e (check-demand s))
-
-refused-requires : tie.Need-refused-requires
-refused-requires c κs = search needs
 
 returns : tie.Need-returns
 returns c =
@@ -39,23 +30,11 @@ returns c =
     let broken = tables-header _ (rw (hdr .ensures) at (c .before .if1 .taken)) ∙ sym (hdr .ensures) in
     meets _ (c .refused .ensures ∙ sym (check-refuses _ broken (c .before .if1 .taken)))
 
-read-requires : tie.Need-read-requires
-read-requires c κs = header-kept c
-
-paths-requires : tie.Need-paths-requires
-paths-requires c κs = right c
-
-refused-requires-2 : tie.Need-refused-requires-2
-refused-requires-2 c κs = search needs
-
 returns-2 : tie.Need-returns-2
 returns-2 c =
     let judged = c .before .before .before in
     let broken = tables-paths _ (header-kept (judged .before .before)) ∙ sym (judged .paths .ensures) in
     meets _ (c .refused2 .ensures ∙ sym (check-refuses _ broken (c .before .if2 .taken)))
-
-check-buckets-requires : tie.Need-check-buckets-requires
-check-buckets-requires c κs = right (c .before .before .before)
 
 returns-3 : tie.Need-returns-3
 returns-3 c =
@@ -68,12 +47,12 @@ pub check-spec : {M : Type 1} → statement M
 check-spec =
     tie.close
     (tie.spec
-    header-requires
-    refused-requires
+    (λ c κs. search needs)
+    (λ c κs. search needs)
     returns
-    read-requires
-    paths-requires
-    refused-requires-2
+    (λ c κs. header-kept c)
+    (λ c κs. c .read .ensures)
+    (λ c κs. search needs)
     returns-2
-    check-buckets-requires
+    (λ c κs. c .before .before .before .read .ensures)
     returns-3)

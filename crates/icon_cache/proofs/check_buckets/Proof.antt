@@ -1,108 +1,91 @@
--- `icon_cache::check_buckets` meets its contract. The loop's invariant: the rest equals the whole, the check of the buckets from the
--- present one on answers as the check of all buckets does.
-use Prim.Native.Nat.{ℕ, suc, _+_, _-_, _≤_}
-use mathlib.Core.Path.{_≡_, refl, ap, sym, _∙_}
-use mathlib.Core.Logic.{_⊎_}
-use mathlib.Core.List.{List, []}
+-- `icon_cache::check_buckets` meets its contract. The loop's invariant: the rest equals the whole,
+-- the check of the buckets from the present one on answers as the check of all buckets does. What
+-- comes after the records of a chain decides (`bucket-ends`, `bucket-breaks`, `bucket-goes-on`).
+use Prim.Native.Nat.{suc, _+_, _-_, _≤_, _<_}
+use mathlib.Core.Path.{_≡_, sym, ap, _∙_}
 use native.Mathlib.Nat.{sub-zero}
 use native.Mathlib.Numerals.{add-one}
 use native.Mathlib.Omega.{arith}
+use borrow.Author.Needs.{needs}
+use lib.ListN.{length}
 use denote.Ref.{now}
-use denote.Enum.Declared.{tagOf}
-use Rattle.format.proofs.Ending.{the-type}
-use Rattle.format.specs.Header.{buckets}
-use Rattle.format.specs.Chain.{walkEnds, walkBucket}
-use Rattle.format.specs.declared.Walk.{Walk}
-use Rattle.format.specs.declared.Ending.{Ending}
+use Rattle.format.specs.Header.{buckets, bucketField}
+use Rattle.format.specs.Chain.{chainOf, mostRecords}
+use Rattle.format.specs.Answer.{refused}
 use Rattle.format.specs.Call.{checkBuckets}
-use Rattle.format.specs.Laws.Header.{header-right}
-use Rattle.format.specs.Laws.Buckets.{bucket-ended, bucket-met, bucket-broken, bucket-endless}
-use Rattle.tables.specs.Laws.{right-buckets}
-use Rattle.chains.proofs.Endings.{ended-or-met}
+use Rattle.format.specs.Laws.Follow.{at-most-one, chain-short}
+use Rattle.format.specs.Laws.Buckets.{bucket-ends, bucket-breaks, bucket-goes-on}
+use Rattle.format.specs.declared.Link.{Link}
+use Rattle.chains.specs.declared.Followed.{Followed}
+use Rattle.tables.specs.Laws.{right-header, right-buckets, right-directories, right-field, field-fits}
 use Rattle.icon_cache.proofs.check_buckets.Statement.{statement}
 use Rattle.icon_cache.proofs.check_buckets.Tie as tie
 
-ending-of : {w v : Walk} {e : Ending} → w ≡ v → w .ending ≡ e → v ≡ walkEnds e (w .opened)
-ending-of {w} p q = sym p ∙ ap (λ (e : Ending). walkEnds e (w .opened)) q
-
--- a walk that neither breaks nor lasts: the check goes on at the next bucket
-passed : (s : List ℕ) (n k o : ℕ) (w : Walk) → w ≡ walkBucket s [] k o → (tagOf the-type (w .ending) ≡ 0) ⊎ (tagOf the-type (w .ending) ≡ 1)
-    → checkBuckets (suc n) s k o ≡ checkBuckets n s (k + 1) (w .opened)
-passed s n k o w p tag =
-    rw add-one
-    (ended-or-met
-    (λ e. w .ending ≡ e → checkBuckets (suc n) s k o ≡ checkBuckets n s (suc k) (w .opened))
-    (λ q. bucket-ended s n k o (ending-of p q))
-    (λ r q. bucket-met s n k o (ending-of p q))
-    (w .ending)
-    tag
-    refl)
-
 abbrev Inv-loop : tie.InvT-loop
-Inv-loop cache t n limit k₀ opened₀ k opened = (k ≤ n) × (checkBuckets (n - k) cache k opened ≡ checkBuckets (buckets cache) cache 0 0)
+Inv-loop cache t n most k₀ icons₀ k icons =
+    (k ≤ n) × (icons ≤ most) × (checkBuckets (n - k) cache k icons ≡ checkBuckets (buckets cache) cache 0 0)
 
 abbrev μ-loop : tie.MeasureT-loop
-μ-loop cache t n limit k₀ opened₀ k opened = n - k
+μ-loop cache t n most k₀ icons₀ k icons = n - k
 
 -- a turn is one bucket more
 turn : (c : tie.In-loop Inv-loop μ-loop)
     → let l = c .before in
     let a = l .before .before .args in
-    checkBuckets (suc (a .t .buckets - (l .loop .k + 1))) (now (a .cache)) (l .loop .k) (l .loop .opened) ≡ checkBuckets (buckets (now (a .cache))) (now (a .cache)) 0 0
+    checkBuckets (suc (a .t .buckets - (l .loop .k + 1))) (now (a .cache)) (l .loop .k) (l .loop .icons) ≡ checkBuckets (buckets (now (a .cache))) (now (a .cache)) 0 0
 turn c =
     let l = c .before in
     let n = l .before .before .args .t .buckets in
     let more : n - l .loop .k ≡ suc (n - (l .loop .k + 1)) = omega arith in
-    rw more at (l .loop .inv .1)
+    rw more at (l .loop .inv .2)
 
-sub-limit : tie.Need-sub-limit Inv-loop μ-loop
-sub-limit c = let start = c .before in omega (arith, header-right (now (start .args .cache)) (start .pre .header) .header-inside)
+-- the records of its chain, and what comes after them
+counted : (c : tie.After-chain Inv-loop μ-loop)
+    → let l = c .before .before in
+    let s = now (l .before .before .args .cache) in
+    length (chainOf s (l .loop .k) (mostRecords s - l .loop .icons) .records) ≡ c .chain .result .records
+counted c = sym (ap (λ (f : Followed). f .records) (c .chain .ensures))
 
-loop-holds : tie.Need-loop-holds Inv-loop μ-loop
-loop-holds c = (omega arith, rw (sub-zero, c .before .pre .tables))
+after : (c : tie.After-chain Inv-loop μ-loop) {e : Link} → c .chain .result .after ≡ e
+    → let l = c .before .before in
+    let s = now (l .before .before .args .cache) in
+    chainOf s (l .loop .k) (mostRecords s - l .loop .icons) .after ≡ e
+after c q = sym (ap (λ (f : Followed). f .after) (c .chain .ensures)) ∙ q
 
-slice-aggregate-walk : tie.Need-slice-aggregate-walk Inv-loop μ-loop
-slice-aggregate-walk c = refl
+-- they are no more than may be passed
+within : (c : tie.After-chain Inv-loop μ-loop)
+    → let l = c .before .before in l .loop .icons + c .chain .result .records ≤ mostRecords (now (l .before .before .args .cache))
+within c =
+    let l = c .before .before in
+    let s = now (l .before .before .args .cache) in
+    omega (arith, counted c, chain-short (mostRecords s - l .loop .icons) s (l .loop .k) (bucketField s (l .loop .k)))
 
-walk-requires : tie.Need-walk-requires Inv-loop μ-loop
-walk-requires c κs =
-    let start = c .before .before .before .before in
-    (start .pre, omega (arith, right-buckets (start .pre)))
-
-enum-known-ending : tie.Need-enum-known-ending Inv-loop μ-loop
-enum-known-ending c = c .match .keys1
+small : (c : tie.After-chain Inv-loop μ-loop) → c .before .before .loop .icons + c .chain .result .records < 16777216
+small c = omega (arith, within c, right-header (c .before .before .before .before .pre))
 
 returns : tie.Need-returns Inv-loop μ-loop
 returns c =
-    let w = c .before .before .before in
-    sym (bucket-broken _ _ _ _ (ending-of (w .walk .ensures) (c .before .ending .given .1))) ∙ turn (w .before .before)
-
-enum-told : tie.Need-enum-told Inv-loop μ-loop
-enum-told c = c .match .keys2
-
-bucket-field-requires : tie.Need-bucket-field-requires Inv-loop μ-loop
-bucket-field-requires c κs =
-    let l = c .before .before .before .before .before in
-    let start = l .before .before in
-    rw (start .pre .tables) (omega (arith, header-right (now (start .args .cache)) (start .pre .header), right-buckets (start .pre)))
+    let known = c .before .before .before in
+    let chained = known .before .before .before in
+    c .refused .ensures
+    ∙ rw (c .before .itself .ensures) (sym (bucket-breaks _ _ _ _ (counted chained) (after chained (known .after .given .1))))
+    ∙ turn (chained .before)
 
 returns-2 : tie.Need-returns-2 Inv-loop μ-loop
 returns-2 c =
-    let w = c .before .before .before in
-    let start = w .before .before .before .before .before in
-    rw (c .bucket-field .ensures, start .pre .tables)
-    (sym (bucket-endless _ _ _ _ (ending-of (w .walk .ensures) (c .before .enum-told .given .1))) ∙ turn (w .before .before))
-
-add-k : tie.Need-add-k Inv-loop μ-loop
-add-k c = omega arith
-
-loop-less : tie.Need-loop-less Inv-loop μ-loop
-loop-less c = omega arith
+    let field = c .before in
+    let chained = field .before .before .before .before in
+    let l = chained .before .before in
+    c .refused2 .ensures
+    ∙ rw (field .bucket-field .ensures, right-field (l .before .before .pre) (l .loop .k))
+    (sym (bucket-goes-on _ _ _ _ (counted chained) (after chained (field .before .enum-told .given .1))))
+    ∙ turn (chained .before)
 
 loop-again : tie.Need-loop-again Inv-loop μ-loop
 loop-again c =
-    let w = c .before in
-    (omega arith, sym (passed _ _ _ _ _ (w .walk .ensures) (c .match .keys3)) ∙ turn (w .before .before))
+    let chained = c .before .before .before in
+    let next = bucket-ends _ _ _ _ (counted chained) (after chained (c .enum-told2 .given .1)) in
+    (omega arith, within chained, rw add-one (sym next) ∙ turn (chained .before))
 
 returns-3 : tie.Need-returns-3 Inv-loop μ-loop
 unfolding checkBuckets
@@ -110,7 +93,7 @@ returns-3 c =
     let l = c .before in
     let start = l .before .before in
     let none : start .args .t .buckets - l .loop .k ≡ 0 = omega arith in
-    rw (start .pre .tables) (rw none at (l .loop .inv .1))
+    rw (right-directories (start .pre)) (rw none at (l .loop .inv .2))
 
 pub check-buckets-spec : {M : Type 1} → statement M
 check-buckets-spec =
@@ -118,16 +101,25 @@ check-buckets-spec =
     (tie.spec
     Inv-loop
     μ-loop
-    sub-limit
-    loop-holds
-    slice-aggregate-walk
-    walk-requires
-    enum-known-ending
+    (λ c. omega (arith, right-header (c .before .pre)))
+    (λ c. (omega arith, omega arith, rw (sub-zero, right-buckets (c .before .pre))))
+    (λ c. omega arith)
+    (λ c κs. let start = c .before .before .before in (start .pre, omega (arith, right-buckets (start .pre))))
+    (λ c. omega (arith, small (c .before)))
+    (λ c. c .match .keys1)
+    (λ c κs. search needs)
+    (λ c. omega (arith, small (c .before .before .before .before .before), at-most-one (c .before .before .after .given .0 .0), c .itself .ensures))
+    (λ c κs. search needs)
     returns
-    enum-told
-    bucket-field-requires
+    (λ c. c .match .keys2)
+    (λ c κs.
+    let right = c .before .before .before .before .before .before .before .pre in
+    field-fits right _ (omega (arith, right-buckets right)))
+    (λ c. omega (arith, small (c .before .before .before .before)))
+    (λ c κs. search needs)
     returns-2
-    add-k
-    loop-less
+    (λ c. c .match .keys3)
+    (λ c. omega arith)
+    (λ c. omega arith)
     loop-again
     returns-3)

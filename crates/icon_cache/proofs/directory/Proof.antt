@@ -1,15 +1,13 @@
--- `icon_cache::directory` meets its contract: it hands on the number and the place of `directory_part`.
+-- `icon_cache::directory` meets its contract: it hands on the number and the place of
+-- `directory_part`.
 use borrow.Author.Needs.{needs}
 use Rattle.format.specs.Call.{directoryPart, directory}
 use Rattle.icon_cache.proofs.directory.Statement.{statement}
 use Rattle.icon_cache.proofs.directory.Tie as tie
-
-directory-part-requires : tie.Need-directory-part-requires
-directory-part-requires c κs = search needs
 
 returns : tie.Need-returns
 unfolding directoryPart directory
 returns c = rw (c .directory-part .ensures)
 
 pub directory-spec : {M : Type 1} → statement M
-directory-spec = tie.close (tie.spec directory-part-requires returns)
+directory-spec = tie.close (tie.spec (λ c κs. search needs) returns)

@@ -1,27 +1,17 @@
--- `icon_cache::directory_part` meets its contract: the header, the index and the path are judged in this order, one law for each
--- (`directory-header`, `directory-beyond`, `directory-path`).
+-- `icon_cache::directory_part` meets its contract: the header, the index and the path are judged in
+-- this order, one law for each (`directory-header`, `directory-beyond`, `directory-path`).
 use mathlib.Core.Path.{_≡_, sym, _∙_}
 use native.Mathlib.Omega.{arith}
 use borrow.Author.Needs.{needs}
 use denote.Ref.{now}
 use Rattle.format.specs.Header.{headerFault}
 use Rattle.format.specs.Laws.Directory.{directory-header, directory-beyond, directory-path, part-refused, part-judged}
-use Rattle.tables.specs.Tables.{Right}
 use Rattle.tables.specs.Laws.{right-directories}
 use Rattle.icon_cache.proofs.directory_part.Statement.{statement}
 use Rattle.icon_cache.proofs.directory_part.Tie as tie
 
-header-requires : tie.Need-header-requires
-header-requires c κs = search needs
-
 header-kept : (c : tie.Else1) → headerFault (now (c .before .before .before .before .args .cache)) .number ≡ 0
 header-kept c = rw (c .before .before .header .ensures) at (c .if1 .left)
-
-right : (c : tie.After-read) → Right (now (c .before .before .before .before .before .args .cache)) (c .read .result)
-right c = record { header = header-kept (c .before); tables = c .read .ensures }
-
-no-part-requires : tie.Need-no-part-requires
-no-part-requires c κs = search needs
 
 returns : tie.Need-returns
 returns c =
@@ -29,36 +19,30 @@ returns c =
     let broken = directory-header _ _ (rw (hdr .ensures) at (c .before .if1 .taken)) ∙ sym (hdr .ensures) in
     c .no-part .ensures ∙ sym (part-refused _ _ broken (c .before .if1 .taken))
 
-read-requires : tie.Need-read-requires
-read-requires c κs = header-kept c
-
-no-part-requires-2 : tie.Need-no-part-requires-2
-no-part-requires-2 c κs = search needs
-
 returns-2 : tie.Need-returns-2
 returns-2 c =
     let tabled = c .before .before .before in
-    let beyond = directory-beyond _ _ (header-kept (tabled .before)) (rw (right-directories (right tabled)) at (c .before .if2 .taken)) in
+    let beyond = directory-beyond _ _ (tabled .read .ensures .header) (rw (right-directories (tabled .read .ensures)) at (c .before .if2 .taken)) in
     c .no-part2 .ensures ∙ sym (part-refused _ _ beyond (λ z. omega arith))
 
 path-requires : tie.Need-path-requires
-path-requires c κs = (right (c .before .before), rw (right-directories (right (c .before .before))) at (c .if2 .left))
+path-requires c κs = let right = c .before .before .read .ensures in (right, rw (right-directories right) at (c .if2 .left))
 
 returns-3 : tie.Need-returns-3
 returns-3 c =
     let tabled = c .before .before .before .before in
-    let judged = directory-path _ _ (header-kept (tabled .before)) (rw (right-directories (right tabled)) at (c .before .before .if2 .left)) in
+    let judged = directory-path _ _ (tabled .read .ensures .header) (rw (right-directories (tabled .read .ensures)) at (c .before .before .if2 .left)) in
     rw (c .before .path .ensures) (sym (part-judged _ _ judged))
 
 pub directory-part-spec : {M : Type 1} → statement M
 directory-part-spec =
     tie.close
     (tie.spec
-    header-requires
-    no-part-requires
+    (λ c κs. search needs)
+    (λ c κs. search needs)
     returns
-    read-requires
-    no-part-requires-2
+    (λ c κs. header-kept c)
+    (λ c κs. search needs)
     returns-2
     path-requires
     returns-3)

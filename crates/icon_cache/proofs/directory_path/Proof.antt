@@ -1,5 +1,5 @@
--- `icon_cache::directory_path` meets its contract: the part lies inside (`part-inside`) and is the path, or empty with a refusal
--- (`part-path`).
+-- `icon_cache::directory_path` meets its contract: the part lies inside (`part-inside`) and is the
+-- path, or empty with a refusal (`part-path`).
 use Prim.Native.Nat.{_+_, _≤_}
 use native.Mathlib.Nat.{add-sub-cancel-left}
 use native.Mathlib.Omega.{arith}
@@ -14,17 +14,8 @@ inside : (c : tie.After-directory-part)
     → c .directory-part .result .start + c .directory-part .result .length ≤ length (now (c .before .before .args .cache))
 inside c = rw (c .directory-part .ensures) (part-inside _ _)
 
-directory-part-requires : tie.Need-directory-part-requires
-directory-part-requires c κs = search needs
-
 add-end : tie.Need-add-end
 add-end c = omega (arith, inside (c .before))
-
-sub-result : tie.Need-sub-result
-sub-result c = search needs
-
-part-result-start : tie.Need-part-result-start
-part-result-start c = search needs
 
 part-result-end : tie.Need-part-result-end
 part-result-end c = omega (arith, inside (c .before))
@@ -38,4 +29,4 @@ returns c =
 pub directory-path-spec : {M : Type 1} → statement M
 directory-path-spec =
     tie.close
-    (tie.spec directory-part-requires add-end sub-result part-result-start part-result-end returns)
+    (tie.spec (λ c κs. search needs) add-end (λ c. search needs) (λ c. search needs) part-result-end returns)

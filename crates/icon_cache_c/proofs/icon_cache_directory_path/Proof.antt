@@ -1,13 +1,11 @@
--- `icon_cache_c::icon_cache_directory_path` meets its contract: it hands on the answer of `directory_part` but for the place.
+-- `icon_cache_c::icon_cache_directory_path` meets its contract: it hands on the answer of
+-- `directory_part` but for the place.
 use borrow.Author.Needs.{needs}
 use Rattle.icon_cache_c.proofs.icon_cache_directory_path.Statement.{statement}
 use Rattle.icon_cache_c.proofs.icon_cache_directory_path.Tie as tie
-
-directory-part-requires : tie.Need-directory-part-requires
-directory-part-requires c κs = search needs
 
 returns : tie.Need-returns
 returns c = rw (c .directory-part .ensures)
 
 pub icon-cache-directory-path-spec : {M : Type 1} → statement M
-icon-cache-directory-path-spec = tie.close (tie.spec directory-part-requires returns)
+icon-cache-directory-path-spec = tie.close (tie.spec (λ c κs. search needs) returns)

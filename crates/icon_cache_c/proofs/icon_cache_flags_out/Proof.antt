@@ -1,14 +1,12 @@
--- `icon_cache_c::icon_cache_flags_out` meets its contract: it hands on the answer of `flags_out` but for the place, which is always 0.
+-- `icon_cache_c::icon_cache_flags_out` meets its contract: it hands on the answer of `flags_out`
+-- but for the place, which is always 0.
 use borrow.Author.Needs.{needs}
 use Rattle.flags.specs.Laws.{no-place}
 use Rattle.icon_cache_c.proofs.icon_cache_flags_out.Statement.{statement}
 use Rattle.icon_cache_c.proofs.icon_cache_flags_out.Tie as tie
 
-flags-out-requires : tie.Need-flags-out-requires
-flags-out-requires c κs = search needs
-
 returns : tie.Need-returns
 returns c = rw (c .flags-out .ensures) (no-place _ _ _)
 
 pub icon-cache-flags-out-spec : {M : Type 1} → statement M
-icon-cache-flags-out-spec = tie.close (tie.spec flags-out-requires returns)
+icon-cache-flags-out-spec = tie.close (tie.spec (λ c κs. search needs) returns)

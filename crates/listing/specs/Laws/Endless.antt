@@ -1,16 +1,16 @@
--- A step tells of a chain whether it never ends: only then is there a record after the largest count that a position may have.
-use Prim.Native.Nat.{ℕ, suc, _-_, _≤_, _<_}
+-- A step tells of a chain whether it never ends: only then is there a record after the largest
+-- count that a position may have.
+use Prim.Native.Nat.{ℕ, suc, _<_}
 use mathlib.Core.Path.{_≡_, sym, ap, _∙_}
 use mathlib.Core.List.{List}
 use mathlib.Core.Logic.{_↔_}
 use native.Mathlib.Nat.{le-refl}
 use native.Mathlib.Omega.{arith}
-use lib.ListN.{length}
 use Rattle.format.specs.Header.{headerFault, buckets}
+use Rattle.format.specs.Chain.{mostRecords}
 use Rattle.format.specs.Words.{KeepsBelow, Turns}
 use Rattle.format.specs.Laws.Faults.{same-number}
-use Rattle.format.specs.Laws.Header.{header-right}
-use Rattle.format.specs.Laws.Links.{goes-on}
+use Rattle.format.specs.Laws.Links.{round}
 use Rattle.format.specs.Laws.Apart.{apart-none, repeats}
 use Rattle.format.specs.Laws.Verdict.{turns, turns-keep}
 use Rattle.listing.specs.Paging.{GoesOn, here, on, HasRecord, RecordAnswers, largest, AtTheLargestCount}
@@ -19,17 +19,12 @@ use Rattle.listing.specs.Laws.Ahead.{Ahead, record-ahead, break-ahead, n
 use Rattle.listing.specs.declared.Position.{Position}
 
 module _ (s : List ℕ) (header : headerFault s .number ≡ 0) (k : ℕ) (l : k < buckets s) where
-  long : 12 ≤ length s
-  long = header-right s header .header-inside
-
   answers : RecordAnswers s (largest s k)
-  answers = step-answers s (largest s k) .goes (same-number (position-right s (largest s k) header l (le-refl (length s - 11))))
+  answers = step-answers s (largest s k) .goes (same-number (position-right s (largest s k) header l (le-refl (mostRecords s))))
 
   -- as many records that keep the rules as there cannot be
-  turns-on : KeepsBelow s k (suc (length s - 11)) → Turns s k
-  turns-on keeps =
-      let enough : KeepsBelow s k (length s - 10 - 0) = λ m i. keeps m (omega (arith, long)) in
-      turns (goes-on (repeats long (apart-none s k) enough) enough)
+  turns-on : KeepsBelow s k (suc (mostRecords s)) → Turns s k
+  turns-on keeps = turns (round (repeats (apart-none s k) (omega arith) keeps) keeps)
 
   own : {r : Position} → GoesOn s (largest s k) r → HasRecord s r → r .bucket ≡ k → Turns s k
   own here a e = turns-on (a .1)

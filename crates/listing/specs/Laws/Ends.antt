@@ -1,5 +1,5 @@
--- On any buffer, from any position, a walk hands back few records: those of chains that end lie apart, and on a chain without an end it comes to
--- the count that is refused.
+-- On any buffer, from any position, a walk hands back few records: those of chains that end lie
+-- apart, and on a chain without an end it comes to the count that is refused.
 use Prim.Native.Nat.{ℕ, zero, suc, _+_, _-_, _≤_, _<_}
 use mathlib.Core.Path.{_≡_, refl, ap, _∙_}
 use mathlib.Core.Logic.{_⊎_, inl, inr}
@@ -8,12 +8,13 @@ use native.Mathlib.Nat.{zero-add, suc-add}
 use native.Mathlib.Decide.{ℕ-discrete}
 use native.Mathlib.Omega.{arith}
 use lib.ListN.{length}
+use Rattle.format.specs.Chain.{mostRecords}
 use Rattle.format.specs.Words.{link, KeepsBelow}
 use Rattle.format.specs.Laws.Below.{below-suc}
 use Rattle.format.specs.Laws.Header.{header-right}
 use Rattle.format.specs.Laws.Links.{keeps-le}
 use Rattle.format.specs.Laws.Apart.{Apart, visits-length, apart-none, apart-length, apart-chain}
-use Rattle.listing.specs.Listing.{position, stepIs, positionFault, step}
+use Rattle.listing.specs.Listing.{position, handsBack, stays, positionFault, step}
 use Rattle.listing.specs.Paging.{GoesOn, here, on, HasRecord, reached, stepAt, mostHanded, Ends}
 use Rattle.listing.specs.Laws.Steps.{position-tells, step-refuses, step-number, step-next}
 use Rattle.listing.specs.Laws.Ahead.{Ahead, record-ahead, break-ahead, nothing-ahead, ahead, step-answers}
@@ -21,9 +22,9 @@ use Rattle.listing.specs.declared.Position.{Position}
 
 -- a step hands back a record, or stays where it is
 data Outcome (s : List ℕ) (q : Position) : Type 0 where
-  stays : {x p : ℕ} → 0 < x → step s q ≡ stepIs x p 0 q → Outcome s q
-  gives : {r : Position} → 12 ≤ length s → q .count ≤ length s - 11 → GoesOn s q r → HasRecord s r
-      → step s q ≡ stepIs 0 0 (link s (r .bucket) (r .count)) (position (r .bucket) (suc (r .count))) → Outcome s q
+  still : {x p : ℕ} → 0 < x → step s q ≡ stays x p q → Outcome s q
+  gives : {r : Position} → 12 ≤ length s → q .count ≤ mostRecords s → GoesOn s q r → HasRecord s r
+      → step s q ≡ handsBack (link s (r .bucket) (r .count)) (position (r .bucket) (suc (r .count))) → Outcome s q
 
 outcome : (s : List ℕ) (q : Position) → Outcome s q
 outcome s q = go (positionFault s q .number) refl
@@ -32,12 +33,12 @@ outcome s q = go (positionFault s q .number) refl
     goes e (record-ahead g a) =
         let (header, bucket, count) = position-tells s q e in
         gives (header-right s header .header-inside) count g a (step-answers s q .goes e .gives g a)
-    goes e (break-ahead g l c b) = stays (b .some) (step-answers s q .goes e .refuses-record g l c b)
-    goes e (nothing-ahead g n) = stays {x = 28} (omega arith) (step-answers s q .goes e .done g n)
+    goes e (break-ahead g l c b) = still (b .some) (step-answers s q .goes e .refuses-record g l c b)
+    goes e (nothing-ahead g n) = still {x = 28} (omega arith) (step-answers s q .goes e .done g n)
 
     go : (m : ℕ) → positionFault s q .number ≡ m → Outcome s q
     go zero e = goes e (ahead s q (omega (arith, position-tells s q e)))
-    go (suc m) e = stays {x = positionFault s q .number} (omega arith) (step-refuses s q refl (λ z. omega arith))
+    go (suc m) e = still {x = positionFault s q .number} (omega arith) (step-refuses s q refl (λ z. omega arith))
 
 -- n records were handed back before q: d on its own chain, and xs on chains before it that ended
 record Handed (s : List ℕ) (q : Position) (n : ℕ) : Type 0 where
@@ -57,7 +58,7 @@ module _ {s : List ℕ} where
       let (ys, b, l) = passes g (apart-chain a h) in
       (ys, b, omega (arith, visits-length s (q .bucket) n xs))
 
-  one-more : {q r : Position} {n : ℕ} → 12 ≤ length s → q .count ≤ length s - 11 → GoesOn s q r → HasRecord s r
+  one-more : {q r : Position} {n : ℕ} → 12 ≤ length s → q .count ≤ mostRecords s → GoesOn s q r → HasRecord s r
       → Handed s q n → Handed s (position (r .bucket) (suc (r .count))) (suc n)
   one-more long most here a t = record {
     xs = t .xs;
@@ -90,7 +91,7 @@ handed-few : (s : List ℕ) (n : ℕ) {q : Position} {m : ℕ} → Handed s q m 
 unfolding reached
 handed-few s zero t hands = omega (arith, t .all, t .limited, apart-length (t .apart))
 handed-few s (suc n) {q} {m} t hands = elim (outcome s q) [
-  | stays some e ↦ absurd (omega (arith, step-number e, hands 0 (omega arith)))
+  | still some e ↦ absurd (omega (arith, step-number e, hands 0 (omega arith)))
   | gives long most g a e ↦
       omega (arith, handed-few s n (one-more long most g a t) (λ i l. rw (reached, step-next e) at (hands (suc i) (omega arith))))
 ]
@@ -101,7 +102,7 @@ module _ (s : List ℕ) where
   unfolding reached
   stands-still zero q none = refl
   stands-still (suc n) q none = elim (outcome s q) [
-    | stays some e ↦ ap (stepAt n s) (step-next e) ∙ stands-still n q none
+    | still some e ↦ ap (stepAt n s) (step-next e) ∙ stands-still n q none
     | gives long most g a e ↦ absurd (none (step-number e))
   ]
 

@@ -1,11 +1,13 @@
--- The walk from the start over an accepted cache: it hands back the list of all records, in which each stands once.
-use Prim.Native.Nat.{ℕ, zero, suc, _+_, _-_, _≤_, _<_}
+-- The walk from the start over an accepted cache: it hands back the list of all records, in which
+-- each stands once.
+use Prim.Native.Nat.{ℕ, zero, suc, _+_, _≤_, _<_}
 use mathlib.Core.Path.{_≡_, refl, sym, ap, _∙_}
 use mathlib.Core.List.{List}
 use native.Mathlib.Nat.{add-zero, zero-add}
 use native.Mathlib.Omega.{arith}
 use lib.ListN.{length, getD}
 use Rattle.format.specs.Header.{buckets}
+use Rattle.format.specs.Chain.{mostRecords, allRecords}
 use Rattle.format.specs.Words.{link, Holds, OnChain, Accepted, Lengths, sum}
 use Rattle.format.specs.Laws.Faults.{same-number}
 use Rattle.format.specs.Laws.Header.{header-right}
@@ -13,11 +15,11 @@ use Rattle.format.specs.Laws.Rules.{tables-right}
 use Rattle.format.specs.Laws.Links.{keeps-le, unbroken, on-chain, chain-on}
 use Rattle.format.specs.Laws.Buckets.{total}
 use Rattle.format.specs.Laws.Demand.{demand3}
-use Rattle.listing.specs.Listing.{start, stepIs, positionFault, step}
-use Rattle.listing.specs.Paging.{GoesOn, here, on, RecordAnswers, reached, stepAt, allRecords, EachOnce, HandsBack, Lists}
+use Rattle.listing.specs.Listing.{start, stays, positionFault, step}
+use Rattle.listing.specs.Paging.{GoesOn, here, on, RecordAnswers, reached, stepAt, EachOnce, HandsBack, Lists}
 use Rattle.listing.specs.Laws.Steps.{position-right, step-next}
 use Rattle.listing.specs.Laws.Ahead.{Ahead, record-ahead, break-ahead, nothing-ahead, ahead, goes-up, step-answers}
-use Rattle.listing.specs.Laws.Order.{records-length, sum-before, record-at, located}
+use Rattle.format.specs.Laws.Order.{records-length, sum-before, record-at, located}
 use Rattle.listing.specs.declared.Position.{Position}
 
 -- n records are passed at q
@@ -28,18 +30,18 @@ record Stands (s : List ℕ) (f : ℕ → ℕ) (q : Position) (n : ℕ) : Type 0
 
 -- the answer after n records: the next, or none
 data Next (s : List ℕ) (f : ℕ → ℕ) (q : Position) (n : ℕ) : Type 0 where
-  hands-back : n < sum f (buckets s) → HandsBack s (step s q) (getD (allRecords s f) n 0) → Stands s f (step s q .next) (suc n) → Next s f q n
-  done : sum f (buckets s) ≤ n → step s q ≡ stepIs 28 0 0 q → Next s f q n
+  hands-back : n < sum f (buckets s) → HandsBack s (step s q) (getD (allRecords s) n 0) → Stands s f (step s q .next) (suc n) → Next s f q n
+  done : sum f (buckets s) ≤ n → step s q ≡ stays 28 0 q → Next s f q n
 
 -- where the n-th of the list lies
 abbrev Located : List ℕ → (ℕ → ℕ) → ℕ → Type 0
-Located s f n = (j m : ℕ) × (j < buckets s) × (n ≡ sum f j + m) × OnChain s j m (getD (allRecords s f) n 0)
+Located s f n = (j m : ℕ) × (j < buckets s) × (n ≡ sum f j + m) × OnChain s j m (getD (allRecords s) n 0)
 
 module _ {s : List ℕ} (acc : Accepted s) (f : ℕ → ℕ) (h : Lengths s (buckets s) f) where
   -- a position of the walk is right
   stands-right : {q : Position} {n : ℕ} → Stands s f q n → positionFault s q .number ≡ 0
   stands-right {q} t =
-      let few : q .count ≤ length s - 11 = omega (arith, t .count, sum-before s f (buckets s) (t .bucket), total f h) in
+      let few : q .count ≤ mostRecords s = omega (arith, t .count, sum-before f (buckets s) (t .bucket), total f h) in
       same-number (position-right s q (tables-right s (acc .sound)) (t .bucket) few)
 
   -- where a step goes on to, as many records are passed
@@ -63,16 +65,16 @@ module _ {s : List ℕ} (acc : Accepted s) (f : ℕ → ℕ) (h : Lengths s (buc
           let own = h (r .bucket) (a .0) in
           let less : r .count < f (r .bucket) = keeps-le own (a .1) in
           let e = same-passed g (omega (arith, a .0)) (t .count) in
-          let at-n : getD (allRecords s f) n 0 ≡ link s (r .bucket) (r .count) = rw (← (t .passed), e) (record-at s f (buckets s) (a .0) less) in
+          let at-n : getD (allRecords s) n 0 ≡ link s (r .bucket) (r .count) = rw (← (t .passed), e) (record-at f (buckets s) h (a .0) less) in
           let given = answers .gives g a in
           hands-back
-          (omega (arith, t .passed, sum-before s f (buckets s) (a .0)))
+          (omega (arith, t .passed, sum-before f (buckets s) (a .0)))
           (rw at-n (r .bucket, r .count, a .0, chain-on own less, given))
           (rw (step-next given) (record { bucket = a .0; count = less; passed = omega (arith, t .passed) }))
       go (break-ahead {r = r} g l c b) = absurd (unbroken (h (r .bucket) l) b)
       go (nothing-ahead {r = r} g e) = done (omega (arith, same-passed g (omega arith) (t .count), t .passed, ap (sum f) e)) (answers .done g e)
 
-  step-record : (n : ℕ) {q : Position} {m : ℕ} → Stands s f q m → m + n < sum f (buckets s) → HandsBack s (stepAt n s q) (getD (allRecords s f) (m + n) 0)
+  step-record : (n : ℕ) {q : Position} {m : ℕ} → Stands s f q m → m + n < sum f (buckets s) → HandsBack s (stepAt n s q) (getD (allRecords s) (m + n) 0)
   unfolding reached
   step-record zero t l = elim (next t) [ hands-back a e u ↦ rw add-zero e | done a e ↦ absurd (omega arith) ]
   step-record (suc n) {q} {m} t l = elim (next t) [
@@ -82,7 +84,7 @@ module _ {s : List ℕ} (acc : Accepted s) (f : ℕ → ℕ) (h : Lengths s (buc
     | done a e ↦ absurd (omega arith)
   ]
 
-  step-done : (n : ℕ) {q : Position} {m : ℕ} → Stands s f q m → sum f (buckets s) ≤ m + n → stepAt n s q ≡ stepIs 28 0 0 (reached n s q)
+  step-done : (n : ℕ) {q : Position} {m : ℕ} → Stands s f q m → sum f (buckets s) ≤ m + n → stepAt n s q ≡ stays 28 0 (reached n s q)
   unfolding reached
   step-done zero {q} t l = elim (next t) [ hands-back a e u ↦ absurd (omega arith) | done a e ↦ e ]
   step-done (suc n) {q} {m} t l = elim (next t) [
@@ -94,30 +96,30 @@ module _ {s : List ℕ} (acc : Accepted s) (f : ℕ → ℕ) (h : Lengths s (buc
   unfolding sum
   begins = record { bucket = header-right s (tables-right s (acc .sound)) .buckets-some; count = omega arith; passed = refl }
 
-  pub lists-all : Lists s (allRecords s f)
+  pub lists-all : Lists s (allRecords s)
   lists-all = record {
-    hands-back = λ n l. rw zero-add at (step-record n begins (omega (arith, records-length s f (buckets s))));
-    done = λ n l. step-done n begins (omega (arith, records-length s f (buckets s)));
+    hands-back = λ n l. rw zero-add at (step-record n begins (omega (arith, records-length f (buckets s) h)));
+    done = λ n l. step-done n begins (omega (arith, records-length f (buckets s) h));
   }
 
   -- where the record at step m of bucket j's chain stands in the list
-  counted : {j m : ℕ} → j < buckets s → m < f j → sum f j + m < length (allRecords s f)
-  counted l c = omega (arith, records-length s f (buckets s), sum-before s f (buckets s) l)
+  counted : {j m : ℕ} → j < buckets s → m < f j → sum f j + m < length (allRecords s)
+  counted l c = omega (arith, records-length f (buckets s) h, sum-before f (buckets s) l)
 
-  located-in : {n : ℕ} → n < length (allRecords s f) → Located s f n
-  located-in {n} l = go (located s f (buckets s) (rw (records-length s f (buckets s)) at l))
+  located-in : {n : ℕ} → n < length (allRecords s) → Located s f n
+  located-in {n} l = go (located f (buckets s) (rw (records-length f (buckets s) h) at l))
     where
       go : ((j m : ℕ) × (j < buckets s) × (m < f j) × (n ≡ sum f j + m)) → Located s f n
-      go (j, m, a, c, e) = (j, m, a, e, rw (e, record-at s f (buckets s) a c) (chain-on (h j a) c))
+      go (j, m, a, c, e) = (j, m, a, e, rw (e, record-at f (buckets s) h a c) (chain-on (h j a) c))
 
   same-place : {j k i o m n : ℕ} → m ≡ sum f j + i → n ≡ sum f k + o → (j ≡ k) × (i ≡ o) → m ≡ n
   same-place p q e = p ∙ rw (e .0, e .1) (sym q)
 
-  pub each-once : EachOnce s (allRecords s f)
+  pub each-once : EachOnce s (allRecords s)
   each-once = record {
     each = λ r. (
       λ t. let (j, m, a, e, c) = located-in (t .1) in (j, m, a, rw (t .2) at c),
-      λ t. let c = on-chain (h (t .0) (t .2)) (t .3) .0 in (sum f (t .0) + t .1, counted (t .2) c, record-at s f (buckets s) (t .2) c ∙ t .3 .named),
+      λ t. let c = on-chain (h (t .0) (t .2)) (t .3) .0 in (sum f (t .0) + t .1, counted (t .2) c, record-at f (buckets s) h (t .2) c ∙ t .3 .named),
     );
     once = λ m n l g e.
         let (j, i, a, p, c) = located-in l in

@@ -1,41 +1,42 @@
--- A step opens at most one record more than its count: where it leaves a chain behind, that chain has no more records than the count.
+-- A step opens at most one record more than its count: where it leaves a chain behind, that chain
+-- has no more records than the count.
 use Prim.Native.Nat.{ℕ, zero, suc, _+_, _≤_}
 use mathlib.Core.Path.{_≡_}
-use mathlib.Core.List.{List, []}
+use mathlib.Core.List.{List}
 use native.Mathlib.Omega.{arith}
-use Rattle.format.specs.Chain.{walkEnds}
-use Rattle.format.specs.declared.Ending.the-variants.{Ended, Broken, Stopped}
-use Rattle.format.specs.Laws.Links.{keeps-named}
-use Rattle.format.specs.Laws.Along.{at-most-one, walk-ends, walk-breaks, walk-lasts}
-use Rattle.format.specs.Laws.Course.{Course, ends, meets, breaks, lasts, course}
-use Rattle.listing.specs.Listing.{stepWalk}
+use lib.ListN.{length}
+use Rattle.format.specs.Chain.{chainOf, itself}
+use Rattle.format.specs.declared.Link.the-variants.{End, Broken, Record}
+use Rattle.format.specs.Laws.Follow.{at-most-one}
+use Rattle.format.specs.Laws.Along.{counted, after-is, holds-chain, breaks-chain, keeps-chain}
+use Rattle.format.specs.Laws.Course.{Course, ends, breaks, goes-on, course}
 use Rattle.listing.specs.Paging.{onwardOpens, stepOpens}
 use Rattle.listing.specs.declared.Position.{Position}
 
-module _ (s : List ℕ) (n k c : ℕ) {o : ℕ} where
-  opens-ended : stepWalk s k c ≡ walkEnds Ended o → onwardOpens (suc n) s k c ≡ o + onwardOpens n s (suc k) 0
+module _ (s : List ℕ) (n k c : ℕ) {m : ℕ} (count : length (chainOf s k c .records) ≡ m) where
+  opens-ends : chainOf s k c .after ≡ End → onwardOpens (suc n) s k c ≡ m + onwardOpens n s (suc k) 0
   unfolding onwardOpens
-  opens-ended e = rw (onwardOpens, e) (rw e)
+  opens-ends e = rw (onwardOpens, e, count)
 
-  opens-broken : {x p : ℕ} → stepWalk s k c ≡ walkEnds (Broken x p) o → onwardOpens (suc n) s k c ≡ o
+  opens-breaks : {x p : ℕ} → chainOf s k c .after ≡ Broken x p → onwardOpens (suc n) s k c ≡ m + itself x
   unfolding onwardOpens
-  opens-broken e = rw (onwardOpens, e) (rw e)
+  opens-breaks e = rw (onwardOpens, e, count)
 
-  opens-stopped : {r : ℕ} → stepWalk s k c ≡ walkEnds (Stopped r) o → onwardOpens (suc n) s k c ≡ o
+  opens-gives : {r : ℕ} → chainOf s k c .after ≡ Record r → onwardOpens (suc n) s k c ≡ m + 1
   unfolding onwardOpens
-  opens-stopped e = rw (onwardOpens, e) (rw e)
+  opens-gives e = rw (onwardOpens, e, count)
 
 module _ (s : List ℕ) where
-  one-bucket : (n k c : ℕ) → Course s [] k (suc c) → onwardOpens n s (suc k) 0 ≤ 1 → onwardOpens (suc n) s k c ≤ suc c
-  one-bucket n k c (ends {n = m} l h none) rest = omega (arith, opens-ended s n k c (walk-ends s [] k 0 l h none))
-  one-bucket n k c (meets l keeps none here same) rest = absurd (keeps-named (here .1) same)
-  one-bucket n k c (breaks {n = m} {x = x} l b none) rest = omega (arith, opens-broken s n k c (walk-breaks s [] k 0 l b none), at-most-one x)
-  one-bucket n k c (lasts keeps none) rest = omega (arith, opens-stopped s n k c (walk-lasts s [] k 0 (suc c) keeps none))
+  one-bucket : (n k c : ℕ) → Course s k c → onwardOpens n s (suc k) 0 ≤ 1 → onwardOpens (suc n) s k c ≤ suc c
+  one-bucket n k c (ends {n = m} l h) rest = let w = holds-chain s k l h in omega (arith, opens-ends s n k c (counted s k m w) (after-is w))
+  one-bucket n k c (breaks {n = m} {x = x} l b) rest =
+      let w = breaks-chain s k l b in omega (arith, opens-breaks s n k c (counted s k m w) (after-is w), at-most-one x)
+  one-bucket n k c (goes-on keeps) rest = let w = keeps-chain s k keeps in omega (arith, opens-gives s n k c (counted s k c w) (after-is w))
 
   onward-opens : (n k c : ℕ) → onwardOpens n s k c ≤ suc c
   unfolding onwardOpens
   onward-opens zero k c = omega arith
-  onward-opens (suc n) k c = one-bucket n k c (course s [] k (suc c)) (onward-opens n (suc k) 0)
+  onward-opens (suc n) k c = one-bucket n k c (course s k c) (onward-opens n (suc k) 0)
 
   pub opens : (q : Position) → stepOpens s q ≤ suc (q .count)
   opens q = onward-opens _ (q .bucket) (q .count)

@@ -4,19 +4,29 @@ use mathlib.Core.Path.{_≡_, sym, ap, _∙_}
 use mathlib.Core.List.{List}
 use lib.ListN.{length}
 use Rattle.format.specs.Header.{buckets}
+use Rattle.format.specs.Chain.{allRecords}
 use Rattle.format.specs.Call.{check}
-use Rattle.format.specs.Words.{Accepted, Lengths}
+use Rattle.format.specs.Words.{Accepted}
 use Rattle.format.specs.declared.CheckAnswer.{CheckAnswer}
+use Rattle.format.specs.Laws.Order.{records-length}
+use Rattle.format.specs.Laws.Buckets.{lengths}
 use Rattle.format.specs.Laws.Demand.{check-answers}
-use Rattle.listing.specs.Paging.{allRecords, Pages}
-use Rattle.listing.specs.Laws.Order.{records-length}
+use Rattle.listing.specs.Paging.{Pages}
 use Rattle.listing.specs.Laws.Lists.{each-once, lists-all}
 use Rattle.listing.specs.Laws.Ends.{ends}
 use Rattle.listing.specs.Laws.Endless.{endless}
 use Rattle.listing.specs.Laws.Opens.{opens}
 
-as-many : (s : List ℕ) → Accepted s → (f : ℕ → ℕ) → Lengths s (buckets s) f → length (allRecords s f) ≡ check s .icons
-as-many s acc f h = records-length s f (buckets s) ∙ sym (ap (λ (a : CheckAnswer). a .icons) (check-answers s .accepts acc f h))
+module _ {s : List ℕ} (acc : Accepted s) where
+  as-many : length (allRecords s) ≡ check s .icons
+  as-many = let (f, h) = lengths acc in records-length f (buckets s) h ∙ sym (ap (λ (a : CheckAnswer). a .icons) (check-answers s .accepts acc f h))
 
 pub pages : (s : List ℕ) → Pages s
-pages s = record { each-once = each-once; as-many = as-many s; lists = lists-all; ends = ends s; endless = endless s; opens = opens s }
+pages s = record {
+  each-once = λ acc. let (f, h) = lengths acc in each-once acc f h;
+  as-many = as-many;
+  lists = λ acc. let (f, h) = lengths acc in lists-all acc f h;
+  ends = ends s;
+  endless = endless s;
+  opens = opens s;
+}

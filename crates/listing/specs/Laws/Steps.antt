@@ -3,14 +3,14 @@ use Prim.Native.Nat.{ℕ, suc, _-_, _≤_, _<_}
 use mathlib.Core.Path.{_≡_, ap, _∙_}
 use mathlib.Core.List.{List}
 use mathlib.Core.Bool.{and-eq-true-iff}
-use borrow.Author.Tests.{lt-ltb, le-ltb, le-leb, lt-leb, ltb-true, leb-true, not-false}
-use lib.ListN.{length}
+use borrow.Author.Tests.{lt-ltb, le-ltb, le-leb, lt-leb, ltb-true, leb-true}
 use Rattle.format.specs.Fault.{fault, noFault}
 use Rattle.format.specs.Header.{headerFault, buckets}
+use Rattle.format.specs.Chain.{chainOf, mostRecords}
 use Rattle.format.specs.declared.Fault.{Fault}
-use Rattle.format.specs.declared.Ending.the-variants.{Ended, Met, Broken, Stopped}
-use Rattle.format.specs.Laws.Faults.{orElse-first, orElse-next, orElse-none, given-none, kept-takes, broken-takes}
-use Rattle.listing.specs.Listing.{position, stepIs, positionFault, stepWalk, onward, step}
+use Rattle.format.specs.declared.Link.the-variants.{End, Broken, Record}
+use Rattle.format.specs.Laws.Faults.{orElse-first, orElse-next, orElse-none, unless-none, kept-takes, broken-takes}
+use Rattle.listing.specs.Listing.{position, handsBack, stays, positionFault, onward, step}
 use Rattle.listing.specs.declared.Position.{Position}
 use Rattle.listing.specs.declared.Step.{Step}
 
@@ -20,23 +20,19 @@ step-number e = ap (λ (a : Step). a .number) e
 pub step-next : {a b : Step} → a ≡ b → a .next ≡ b .next
 step-next e = ap (λ (a : Step). a .next) e
 
--- one bucket, by the ending of its walk
+-- one bucket, by what comes after the records to be passed on its chain
 module _ (s : List ℕ) (q : Position) (n k c : ℕ) where
-  pub onward-ended : stepWalk s k c .ending ≡ Ended → onward (suc n) s q k c ≡ onward n s q (suc k) 0
+  pub onward-ends : chainOf s k c .after ≡ End → onward (suc n) s q k c ≡ onward n s q (suc k) 0
   unfolding onward
-  onward-ended e = rw (onward, e)
+  onward-ends e = rw (onward, e)
 
-  pub onward-met : {r : ℕ} → stepWalk s k c .ending ≡ Met r → onward (suc n) s q k c ≡ onward n s q (suc k) 0
+  pub onward-breaks : {x p : ℕ} → chainOf s k c .after ≡ Broken x p → onward (suc n) s q k c ≡ stays x p q
   unfolding onward
-  onward-met e = rw (onward, e)
+  onward-breaks e = rw (onward, e)
 
-  pub onward-broken : {x p : ℕ} → stepWalk s k c .ending ≡ Broken x p → onward (suc n) s q k c ≡ stepIs x p 0 q
+  pub onward-gives : {r : ℕ} → chainOf s k c .after ≡ Record r → onward (suc n) s q k c ≡ handsBack r (position k (suc c))
   unfolding onward
-  onward-broken e = rw (onward, e)
-
-  pub onward-stopped : {r : ℕ} → stepWalk s k c .ending ≡ Stopped r → onward (suc n) s q k c ≡ stepIs 0 0 r (position k (suc c))
-  unfolding onward
-  onward-stopped e = rw (onward, e)
+  onward-gives e = rw (onward, e)
 
 module _ (s : List ℕ) (q : Position) where
   pub position-header : (headerFault s .number ≡ 0 → ⊥) → positionFault s q ≡ headerFault s
@@ -49,23 +45,23 @@ module _ (s : List ℕ) (q : Position) where
     unfolding positionFault
     position-no-bucket l = orElse-next _ _ h ∙ rw (le-ltb (q .bucket) (buckets s) l)
 
-    pub position-counts-too-far : q .bucket < buckets s → length s - 11 < q .count → positionFault s q ≡ fault 26 0
+    pub position-counts-too-far : q .bucket < buckets s → mostRecords s < q .count → positionFault s q ≡ fault 26 0
     unfolding positionFault
-    position-counts-too-far l g = orElse-next _ _ h ∙ rw (lt-ltb (q .bucket) (buckets s) l, lt-leb (q .count) (length s - 11) g)
+    position-counts-too-far l g = orElse-next _ _ h ∙ rw (lt-ltb (q .bucket) (buckets s) l, lt-leb (q .count) (mostRecords s) g)
 
-    pub position-right : q .bucket < buckets s → q .count ≤ length s - 11 → positionFault s q ≡ noFault
+    pub position-right : q .bucket < buckets s → q .count ≤ mostRecords s → positionFault s q ≡ noFault
     unfolding positionFault
-    position-right l g = orElse-next _ _ h ∙ rw (lt-ltb (q .bucket) (buckets s) l, le-leb (q .count) (length s - 11) g)
+    position-right l g = orElse-next _ _ h ∙ rw (lt-ltb (q .bucket) (buckets s) l, le-leb (q .count) (mostRecords s) g)
 
   -- what a position tells that is right
-  pub position-tells : positionFault s q .number ≡ 0 → (headerFault s .number ≡ 0) × (q .bucket < buckets s) × (q .count ≤ length s - 11)
+  pub position-tells : positionFault s q .number ≡ 0 → (headerFault s .number ≡ 0) × (q .bucket < buckets s) × (q .count ≤ mostRecords s)
   unfolding positionFault
   position-tells e =
       let kept = orElse-none _ _ e in
-      let both = and-eq-true-iff _ _ .0 (not-false _ (given-none _ _ _ (kept .1))) in
+      let both = and-eq-true-iff _ _ .0 (unless-none _ _ _ (kept .1)) in
       (kept .0, ltb-true _ _ (both .0), leb-true _ _ (both .1))
 
-  pub step-refuses : {f : Fault} → positionFault s q ≡ f → (f .number ≡ 0 → ⊥) → step s q ≡ stepIs (f .number) (f .place) 0 q
+  pub step-refuses : {f : Fault} → positionFault s q ≡ f → (f .number ≡ 0 → ⊥) → step s q ≡ stays (f .number) (f .place) q
   unfolding step
   step-refuses {f} e some = rw e (broken-takes f _ _ some)
 

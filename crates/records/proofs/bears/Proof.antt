@@ -9,16 +9,10 @@ use borrow.Author.Needs.{needs}
 use Rattle.records.proofs.bears.Statement.{statement}
 use Rattle.records.proofs.bears.Tie as tie
 
-name-part-requires : tie.Need-name-part-requires
-name-part-requires c κs = search needs
-
-same-requires : tie.Need-same-requires
-same-requires c κs = search needs
-
 returns : tie.Need-returns
 returns c =
     c .same .ensures
     ∙ ap (λ (t : List ℕ). isWhole (text 255 t) && sameBytes (string t) (now (c .before .before .before .before .args .name))) (c .before .name-part .ensures)
 
 pub bears-spec : {M : Type 1} → statement M
-bears-spec = tie.close (tie.spec name-part-requires same-requires returns)
+bears-spec = tie.close (tie.spec (λ c κs. search needs) (λ c κs. search needs) returns)

@@ -1,5 +1,6 @@
--- `records::image_right` meets its contract: the first test says whether the index is right (`within` and `beyond` below), and where it is the
--- flags decide, which are the rest of the first word.
+-- `records::image_right` meets its contract: the first test says whether the index is right
+-- (`within` and `beyond` below), and where it is the flags decide, which are the rest of the first
+-- word.
 use Prim.Native.Nat.{ℕ, _+_, _*_, _%_, _^_, _≤_, _<_}
 use mathlib.Core.Path.{_≡_, refl, ap, _∙_, sym}
 use mathlib.Core.Bool.{Bool, true, false}
@@ -54,12 +55,6 @@ placed c =
       after = ap (λ (w : RightWords). (c .wrapping-sub-u32 .result + w .lowest) % 2 ^ 32) (sym (start .pre .0 .1)) ∙ c .wrapping-sub-u32 .ensures ∙ word .ensures .0;
     }
 
-first-word-requires : tie.Need-first-word-requires
-first-word-requires c κs = search needs
-
-wrapping-sub-u32-requires : tie.Need-wrapping-sub-u32-requires
-wrapping-sub-u32-requires c κs = search needs
-
 returns : tie.Need-returns
 returns c =
     let sub = c .before .before in
@@ -76,4 +71,4 @@ returns-2 c =
 
 pub image-right-spec : {M : Type 1} → statement M
 image-right-spec =
-    tie.close (tie.spec first-word-requires wrapping-sub-u32-requires returns returns-2)
+    tie.close (tie.spec (λ c κs. search needs) (λ c κs. search needs) returns returns-2)

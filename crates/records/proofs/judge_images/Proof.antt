@@ -1,5 +1,6 @@
--- `records::judge_images` meets its contract: the test asks what rule 10 asks, the images of a list that keeps it end inside, and the laws
--- `list-broken` and `list-kept` say which rule is the first to be broken.
+-- `records::judge_images` meets its contract: the test asks what rule 10 asks, the images of a list
+-- that keeps it end inside, and the laws `list-broken` and `list-kept` say which rule is the first
+-- to be broken.
 use Prim.Native.Nat.{_+_, _*_, _≤_}
 use mathlib.Core.Path.{_≡_, sym, _∙_}
 use mathlib.Core.Bool.{and-eq-true-iff}
@@ -27,32 +28,11 @@ ends-inside : (c : tie.Else1)
     at + 4 + 8 * be 4 s at ≤ length s
 ends-inside c = list-ends _ _ 8 (and-eq-true-iff _ _ .0 (sym (c .before .list-right .ensures) ∙ not-false _ (c .if1 .left)) .0)
 
-add-u32-at : tie.Need-add-u32-at
-add-u32-at c = search needs
-
-u32-at-requires : tie.Need-u32-at-requires
-u32-at-requires c κs = search needs
-
-cast-at : tie.Need-cast-at
-cast-at c = search needs
-
-list-right-requires : tie.Need-list-right-requires
-list-right-requires c κs = search needs
-
-add-t11 : tie.Need-add-t11
-add-t11 c = search needs
-
 returns : tie.Need-returns
 returns c = sym (list-broken _ _ (sym (listed (c .before)) ∙ not-true _ (c .if1 .taken)))
 
 u32-at-requires-2 : tie.Need-u32-at-requires-2
 u32-at-requires-2 c κs = omega (arith, ends-inside c)
-
-cast-m : tie.Need-cast-m
-cast-m c = search needs
-
-add-images : tie.Need-add-images
-add-images c = search needs
 
 images-requires : tie.Need-images-requires
 images-requires c κs =
@@ -73,14 +53,14 @@ pub judge-images-spec : {M : Type 1} → statement M
 judge-images-spec =
     tie.close
     (tie.spec
-    add-u32-at
-    u32-at-requires
-    cast-at
-    list-right-requires
-    add-t11
+    (λ c. search needs)
+    (λ c κs. search needs)
+    (λ c. search needs)
+    (λ c κs. search needs)
+    (λ c. search needs)
     returns
     u32-at-requires-2
-    cast-m
-    add-images
+    (λ c. search needs)
+    (λ c. search needs)
     images-requires
     returns-2)

@@ -1,5 +1,6 @@
--- `records::judge_name` meets its contract: what each test asks is what a rule of the definition asks, and the laws `name-unread`,
--- `name-foreign` and `name-home` say which rule is the first to be broken. A name that is known keeps both by the `requires`.
+-- `records::judge_name` meets its contract: what each test asks is what a rule of the definition
+-- asks, and the laws `name-unread`, `name-foreign` and `name-home` say which rule is the first to
+-- be broken. A name that is known keeps both by the `requires`.
 use Prim.Native.Nat.{ℕ, _%_}
 use mathlib.Core.Path.{_≡_, ap, sym, _∙_}
 use mathlib.Core.List.{List}
@@ -19,7 +20,8 @@ use Rattle.tables.specs.Laws.{right-buckets}
 use Rattle.records.proofs.judge_name.Statement.{statement}
 use Rattle.records.proofs.judge_name.Tie as tie
 
--- the call's start, from the place where the name is read, and from the place where the bucket is compared
+-- the call's start, from the place where the name is read, and from the place where the bucket is
+-- compared
 abbrev start : tie.After-read-name → tie.Start
 start c = c .before .before .before .before
 
@@ -53,29 +55,11 @@ placed c = let read = c .before .before .before .before in hash-bucket _ _ (hash
 returns : tie.Need-returns
 returns c = sym (c .before .before .pre .1 .1 (c .if1 .taken))
 
-name-part-requires : tie.Need-name-part-requires
-name-part-requires c κs = search needs
-
-read-name-requires : tie.Need-read-name-requires
-read-name-requires c κs = search needs
-
-enum-told : tie.Need-enum-told
-enum-told c = search needs
-
-add-t10 : tie.Need-add-t10
-add-t10 c = search needs
-
 returns-2 : tie.Need-returns-2
 returns-2 c = sym (name-unread _ _ _ (sym (named (c .before)) ∙ tag-not-whole _ (c .match .keys2)))
 
-cast-if2 : tie.Need-cast-if2
-cast-if2 c = search needs
-
 rem-if2 : tie.Need-rem-if2
 rem-if2 c = rw (counted (start-of-all c)) (header-right _ (start-of-all c .pre .0 .header) .buckets-some)
-
-add-t13 : tie.Need-add-t13
-add-t13 c = search needs
 
 returns-3 : tie.Need-returns-3
 returns-3 c = sym (name-foreign _ _ _ (whole (c .before)) (rw (placed (c .before)) at (c .if2 .taken)))
@@ -88,13 +72,13 @@ judge-name-spec =
     tie.close
     (tie.spec
     returns
-    name-part-requires
-    read-name-requires
-    enum-told
-    add-t10
+    (λ c κs. search needs)
+    (λ c κs. search needs)
+    (λ c. search needs)
+    (λ c. search needs)
     returns-2
-    cast-if2
+    (λ c. search needs)
     rem-if2
-    add-t13
+    (λ c. search needs)
     returns-3
     returns-4)

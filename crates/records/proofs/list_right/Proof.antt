@@ -1,4 +1,5 @@
--- `records::list_right` meets its contract: where the list lies inside its count decides, and its count can be read (the law `list-ends`).
+-- `records::list_right` meets its contract: where the list lies inside its count decides, and its
+-- count can be read (the law `list-ends`).
 use mathlib.Core.Path.{_∙_, sym}
 use native.Mathlib.Omega.{arith}
 use borrow.Author.Needs.{needs}
@@ -6,9 +7,6 @@ use denote.Ref.{now}
 use Rattle.format.specs.Laws.Reads.{list-ends}
 use Rattle.records.proofs.list_right.Statement.{statement}
 use Rattle.records.proofs.list_right.Tie as tie
-
-list-inside-requires : tie.Need-list-inside-requires
-list-inside-requires c κs = search needs
 
 u32-at-requires : tie.Need-u32-at-requires
 u32-at-requires c κs =
@@ -22,4 +20,4 @@ returns-2 : tie.Need-returns-2
 returns-2 c = simp (← (c .before .list-inside .ensures), c .if1 .left)
 
 pub list-right-spec : {M : Type 1} → statement M
-list-right-spec = tie.close (tie.spec list-inside-requires u32-at-requires returns returns-2)
+list-right-spec = tie.close (tie.spec (λ c κs. search needs) u32-at-requires returns returns-2)

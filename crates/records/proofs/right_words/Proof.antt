@@ -4,12 +4,6 @@ use borrow.Author.Tests.{eq-eqb, ne-eqb}
 use Rattle.records.proofs.right_words.Statement.{statement}
 use Rattle.records.proofs.right_words.Tie as tie
 
-cast-t4 : tie.Need-cast-t4
-cast-t4 c = search needs
-
-mul-t5 : tie.Need-mul-t5
-mul-t5 c = search needs
-
 returns : tie.Need-returns
 returns c = simp (eq-eqb _ _ (c .if1 .taken))
 
@@ -17,4 +11,4 @@ returns-2 : tie.Need-returns-2
 returns-2 c = simp (ne-eqb _ _ (c .if1 .left))
 
 pub right-words-spec : {M : Type 1} → statement M
-right-words-spec = tie.close (tie.spec cast-t4 mul-t5 returns returns-2)
+right-words-spec = tie.close (tie.spec (λ c. search needs) (λ c. search needs) returns returns-2)

@@ -1,5 +1,6 @@
--- `records::write_images` meets its contract. The images are written from the last to the first, so what stands from the present word on
--- is always the end of what is wanted: that is the loop's invariant. Rests on the laws `two-stored` and `words-cons`.
+-- `records::write_images` meets its contract. The images are written from the last to the first, so
+-- what stands from the present word on is always the end of what is wanted: that is the loop's
+-- invariant. Rests on the laws `two-stored` and `words-cons`.
 use Prim.Native.Nat.{ℕ, _+_, _-_, _*_, _≤_}
 use mathlib.Core.Path.{_≡_, refl, _∙_}
 use mathlib.Core.List.{List, _++_}
@@ -34,47 +35,8 @@ loop-holds : tie.Need-loop-holds Inv-loop μ-loop
 unfolding imageWords
 loop-holds c = (omega arith, refl, rw sub-self)
 
-sub-i : tie.Need-sub-i Inv-loop μ-loop
-sub-i c = omega arith
-
-mul-image : tie.Need-mul-image Inv-loop μ-loop
-mul-image c = omega arith
-
-add-image : tie.Need-add-image Inv-loop μ-loop
-add-image c = omega arith
-
-first-word-requires : tie.Need-first-word-requires Inv-loop μ-loop
-first-word-requires c κs = omega arith
-
-mul-words : tie.Need-mul-words Inv-loop μ-loop
-mul-words c = omega arith
-
-mul-words-2 : tie.Need-mul-words-2 Inv-loop μ-loop
-mul-words-2 c = omega arith
-
-slice-write-words : tie.Need-slice-write-words Inv-loop μ-loop
-slice-write-words c = omega arith
-
-add-u32-at : tie.Need-add-u32-at Inv-loop μ-loop
-add-u32-at c = omega arith
-
-u32-at-requires : tie.Need-u32-at-requires Inv-loop μ-loop
-u32-at-requires c κs = omega arith
-
-mul-words-3 : tie.Need-mul-words-3 Inv-loop μ-loop
-mul-words-3 c = omega arith
-
-add-words : tie.Need-add-words Inv-loop μ-loop
-add-words c = omega arith
-
-mul-words-4 : tie.Need-mul-words-4 Inv-loop μ-loop
-mul-words-4 c = omega arith
-
 slice-write-words-2 : tie.Need-slice-write-words-2 Inv-loop μ-loop
 slice-write-words-2 c = simp length-set (omega arith)
-
-loop-less : tie.Need-loop-less Inv-loop μ-loop
-loop-less c = omega arith
 
 loop-again : tie.Need-loop-again Inv-loop μ-loop
 loop-again c =
@@ -100,9 +62,6 @@ loop-again c =
           (l .loop .inv .2),
     )
 
-same-length : tie.Need-same-length Inv-loop μ-loop
-same-length c = omega arith
-
 returns : tie.Need-returns Inv-loop μ-loop
 returns c = let first : c .before .loop .i ≡ 0 = omega arith in rw (first, sub-zero, add-zero) at (c .before .loop .inv .2)
 
@@ -113,20 +72,20 @@ write-images-spec =
     Inv-loop
     μ-loop
     loop-holds
-    sub-i
-    mul-image
-    add-image
-    first-word-requires
-    mul-words
-    mul-words-2
-    slice-write-words
-    add-u32-at
-    u32-at-requires
-    mul-words-3
-    add-words
-    mul-words-4
+    (λ c. omega arith)
+    (λ c. omega arith)
+    (λ c. omega arith)
+    (λ c κs. omega arith)
+    (λ c. omega arith)
+    (λ c. omega arith)
+    (λ c. omega arith)
+    (λ c. omega arith)
+    (λ c κs. omega arith)
+    (λ c. omega arith)
+    (λ c. omega arith)
+    (λ c. omega arith)
     slice-write-words-2
-    loop-less
+    (λ c. omega arith)
     loop-again
-    same-length
+    (λ c. omega arith)
     returns)

@@ -1,5 +1,5 @@
--- `tables::list_count` meets its contract: the test says which number is asked for, and a list that lies inside has its count inside (the law
--- `list-ends`).
+-- `tables::list_count` meets its contract: the test says which number is asked for, and a list that
+-- lies inside has its count inside (the law `list-ends`).
 use borrow.Author.Needs.{needs}
 use mathlib.Core.Path.{_∙_, sym}
 use native.Mathlib.Omega.{arith}
@@ -7,15 +7,6 @@ use denote.Ref.{now}
 use Rattle.format.specs.Laws.Reads.{list-ends}
 use Rattle.tables.proofs.list_count.Statement.{statement}
 use Rattle.tables.proofs.list_count.Tie as tie
-
-u32-at-requires : tie.Need-u32-at-requires
-u32-at-requires c κs = search needs
-
-cast-at : tie.Need-cast-at
-cast-at c = search needs
-
-list-inside-requires : tie.Need-list-inside-requires
-list-inside-requires c κs = search needs
 
 u32-at-requires-2 : tie.Need-u32-at-requires-2
 u32-at-requires-2 c κs =
@@ -32,4 +23,4 @@ returns-2 c = simp (← (c .before .before .u32-at .ensures), ← (c .before .li
 pub list-count-spec : {M : Type 1} → statement M
 list-count-spec =
     tie.close
-    (tie.spec u32-at-requires cast-at list-inside-requires u32-at-requires-2 returns returns-2)
+    (tie.spec (λ c κs. search needs) (λ c. search needs) (λ c κs. search needs) u32-at-requires-2 returns returns-2)

@@ -1,5 +1,6 @@
--- `tables::list_inside` meets its contract: at each `return` the test that led there says which half of `listInside` decides. Nothing
--- wraps, since the offset and the count are below 2^32 and an entry has at most 8 bytes.
+-- `tables::list_inside` meets its contract: at each `return` the test that led there says which
+-- half of `listInside` decides. Nothing wraps, since the offset and the count are below 2^32 and an
+-- entry has at most 8 bytes.
 use borrow.Author.Needs.{needs}
 use Prim.Native.Nat.{_+_, _*_, _^_, _≤_, _<_}
 use native.Mathlib.Nat.{mul-le-mul}
@@ -13,20 +14,11 @@ use Rattle.tables.proofs.list_inside.Tie as tie
 entries-fit : (c : tie.After-u32-at) → c .before .before .before .args .size * c .u32-at .result ≤ 2 ^ 35
 entries-fit c = mul-le-mul {n₂ = 8} {m₂ = 2 ^ 32} (c .before .before .before .pre .1) (omega arith)
 
-add-if1 : tie.Need-add-if1
-add-if1 c = search needs
-
 returns : tie.Need-returns
 returns c =
     let a = c .before .before .args in
     let outside : length (now (a .cache)) < a .at + 4 = omega arith in
     simp (lt-leb _ _ outside)
-
-u32-at-requires : tie.Need-u32-at-requires
-u32-at-requires c κs = search needs
-
-cast-count : tie.Need-cast-count
-cast-count c = search needs
 
 mul-result : tie.Need-mul-result
 mul-result c = omega (arith, entries-fit c)
@@ -44,10 +36,10 @@ pub list-inside-spec : {M : Type 1} → statement M
 list-inside-spec =
     tie.close
     (tie.spec
-    add-if1
+    (λ c. search needs)
     returns
-    u32-at-requires
-    cast-count
+    (λ c κs. search needs)
+    (λ c. search needs)
     mul-result
     add-result
     add-result-2

@@ -1,5 +1,7 @@
--- `tables::path` meets its contract. The field, the part that starts with the path, the answer on the string and that on its segments are those of the
--- definitions, and each `return` is one of the laws `path-not-whole`, `path-absolute`, `path-segments` and `path-kept`. A whole string has a first byte.
+-- `tables::path` meets its contract. The field, the part that starts with the path, the answer on
+-- the string and that on its segments are those of the definitions, and each `return` is one of the
+-- laws `path-not-whole`, `path-absolute`, `path-segments` and `path-kept`. A whole string has a
+-- first byte.
 use Prim.Native.Nat.{ℕ, suc}
 use mathlib.Core.Path.{_≡_, _∙_, sym, ap}
 use mathlib.Core.List.{List}
@@ -51,7 +53,8 @@ text-is : (c : tie.After-read-path)
     → let a = c .before .before .before .before .before .args in c .read-path .result .text ≡ text 1023 (pathPart (now (a .cache)) (a .i))
 text-is c = c .read-path .ensures .0 ∙ ap (text 1023) (part-is (c .before))
 
--- in the arm of a whole path: where the path was read, what it is, and that its segments were read to its end
+-- in the arm of a whole path: where the path was read, what it is, and that its segments were read
+-- to its end
 abbrev read : tie.After-shared-slice-known2 → tie.After-read-path
 read c = c .before .before .before .before
 
@@ -76,34 +79,16 @@ path-field-requires c κs = omega (arith, right (c .before), field-of (c .before
 u32-at-requires : tie.Need-u32-at-requires
 u32-at-requires c κs = omega (arith, right (c .before .before), field-is c)
 
-cast-start : tie.Need-cast-start
-cast-start c = search needs
-
-from-requires : tie.Need-from-requires
-from-requires c κs = search needs
-
-read-path-requires : tie.Need-read-path-requires
-read-path-requires c κs = search needs
-
-enum-known-text : tie.Need-enum-known-text
-enum-known-text c = search needs
-
 shared-slice-read-if1 : tie.Need-shared-slice-read-if1
 shared-slice-read-if1 c =
     let is-whole = whole-is-whole 1023 _ _ (sym (read c .read-path .ensures .0) ∙ c .before .before .text .given .1) in
     omega (arith, whole-string 1023 _ is-whole)
-
-bad-path-requires : tie.Need-bad-path-requires
-bad-path-requires c κs = search needs
 
 returns : tie.Need-returns
 returns c =
     let part = read (c .before .before) .before in
     let slash = rw (part-is part) at (c .before .if1 .taken) in
     c .bad-path .ensures ∙ rw (field-is (part .before .before)) (sym (judged-broken _ _ (path-absolute _ _ slash)))
-
-bad-path-requires-2 : tie.Need-bad-path-requires-2
-bad-path-requires-2 c κs = search needs
 
 returns-2 : tie.Need-returns-2
 returns-2 c =
@@ -112,9 +97,6 @@ returns-2 c =
     let no-slash = rw (part-is part) at (c .before .before .if1 .left) in
     let wrong = sym (segments-are arm) ∙ not-true _ (c .before .if2 .taken) in
     c .bad-path2 .ensures ∙ rw (field-is (part .before .before)) (sym (judged-broken _ _ (path-segments _ _ (whole arm) no-slash wrong)))
-
-bad-path-requires-3 : tie.Need-bad-path-requires-3
-bad-path-requires-3 c κs = search needs
 
 returns-3 : tie.Need-returns-3
 returns-3 c =
@@ -136,15 +118,15 @@ path-spec =
     (tie.spec
     path-field-requires
     u32-at-requires
-    cast-start
-    from-requires
-    read-path-requires
-    enum-known-text
+    (λ c. search needs)
+    (λ c κs. search needs)
+    (λ c κs. search needs)
+    (λ c. search needs)
     shared-slice-read-if1
-    bad-path-requires
+    (λ c κs. search needs)
     returns
-    bad-path-requires-2
+    (λ c κs. search needs)
     returns-2
-    bad-path-requires-3
+    (λ c κs. search needs)
     returns-3
     returns-4)

@@ -1,5 +1,5 @@
--- `tables::paths` meets its contract. The loop's invariant: the judgement of the paths that are left is that of all. Each turn is one of the laws
--- `paths-stop` and `paths-go-on`.
+-- `tables::paths` meets its contract. The loop's invariant: the judgement of the paths that are
+-- left is that of all. Each turn is one of the laws `paths-stop` and `paths-go-on`.
 use borrow.Author.Needs.{needs}
 use Prim.Native.Nat.{_-_, _≤_}
 use mathlib.Core.Path.{_≡_, _∙_, sym, ap}
@@ -40,12 +40,6 @@ returns c =
     ∙ sym (paths-stop _ _ _ (omega (arith, count-is (loop .before .before), c .before .before .before .before .loop-test)) (rw judged at (c .if1 .taken)))
     ∙ loop .loop .inv .1
 
-add-i : tie.Need-add-i Inv-loop μ-loop
-add-i c = omega arith
-
-loop-less : tie.Need-loop-less Inv-loop μ-loop
-loop-less c = omega arith
-
 loop-again : tie.Need-loop-again Inv-loop μ-loop
 loop-again c =
     let judged = fault-is (c .before .before .before) in
@@ -66,7 +60,7 @@ paths-spec =
     loop-holds
     path-requires
     returns
-    add-i
-    loop-less
+    (λ c. omega arith)
+    (λ c. omega arith)
     loop-again
     returns-2)

@@ -4,12 +4,6 @@ use borrow.Author.Tests.{eq-eqb, ne-eqb}
 use Rattle.tables.proofs.version_right.Statement.{statement}
 use Rattle.tables.proofs.version_right.Tie as tie
 
-u16-at-requires : tie.Need-u16-at-requires
-u16-at-requires c κs = search needs
-
-u16-at-requires-2 : tie.Need-u16-at-requires-2
-u16-at-requires-2 c κs = search needs
-
 returns : tie.Need-returns
 returns c = simp (← (c .before .before .u16-at .ensures), eq-eqb _ _ (c .before .if1 .taken), c .u16-at2 .ensures)
 
@@ -17,4 +11,4 @@ returns-2 : tie.Need-returns-2
 returns-2 c = simp (← (c .before .u16-at .ensures), ne-eqb _ _ (c .if1 .left))
 
 pub version-right-spec : {M : Type 1} → statement M
-version-right-spec = tie.close (tie.spec u16-at-requires u16-at-requires-2 returns returns-2)
+version-right-spec = tie.close (tie.spec (λ c κs. search needs) (λ c κs. search needs) returns returns-2)

@@ -1,5 +1,6 @@
--- `text::asked` meets its contract. A name that has bytes is allowed just where `read_name` finds it cut off: no zero byte came, and no more than
--- 255 bytes are there. Rests on `judged` and `string-fits`.
+-- `text::asked` meets its contract. A name that has bytes is allowed just where `read_name` finds
+-- it cut off: no zero byte came, and no more than 255 bytes are there. Rests on `judged` and
+-- `string-fits`.
 use Prim.Native.Nat.{ℕ, _<_, _≤_}
 use mathlib.Core.Path.{_≡_, sym, _∙_}
 use mathlib.Core.Logic.{⊎-elim}
@@ -32,15 +33,9 @@ allowed-where-cut name some a = rw a (go (judged 255 name))
     go (empty h e) = let d : length (string name) ≡ length name → ⊥ = λ q. omega arith in rw (allowed, ne-eqb _ _ d, and-false)
     go (whole e h) = let d : length (string name) ≡ length name → ⊥ = λ q. omega arith in rw (allowed, ne-eqb _ _ d, and-false)
 
-read-name-requires : tie.Need-read-name-requires
-read-name-requires c κs = search needs
-
 returns : tie.Need-returns
 unfolding allowed
 returns c = (simp (c .if1 .taken), c .before .read-name .ensures .1)
-
-enum-told : tie.Need-enum-told
-enum-told c = search needs
 
 returns-2 : tie.Need-returns-2
 returns-2 c =
@@ -58,4 +53,4 @@ returns-3 c =
     (sym (allowed-where-cut name some (read .ensures .0) ∙ ne-eqb _ _ other), read .ensures .1)
 
 pub asked-spec : {M : Type 1} → statement M
-asked-spec = tie.close (tie.spec read-name-requires returns enum-told returns-2 returns-3)
+asked-spec = tie.close (tie.spec (λ c κs. search needs) returns (λ c. search needs) returns-2 returns-3)

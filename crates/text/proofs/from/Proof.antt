@@ -1,4 +1,5 @@
--- `text::from` meets its contract: the part from `at` on is all that is left after it, and past the end nothing is.
+-- `text::from` meets its contract: the part from `at` on is all that is left after it, and past the
+-- end nothing is.
 use Prim.Native.Nat.{_-_, _≤_}
 use mathlib.Core.Path.{sym}
 use native.Mathlib.Omega.{arith}
@@ -8,18 +9,6 @@ use lib.Seq.{take-all}
 use denote.Ref.{now}
 use Rattle.text.proofs.from.Statement.{statement}
 use Rattle.text.proofs.from.Tie as tie
-
-sub-result : tie.Need-sub-result
-sub-result c = search needs
-
-part-result-start : tie.Need-part-result-start
-part-result-start c = search needs
-
-part-result-end : tie.Need-part-result-end
-part-result-end c = search needs
-
-slice-aggregate-result : tie.Need-slice-aggregate-result
-slice-aggregate-result c = search needs
 
 returns : tie.Need-returns
 returns c =
@@ -34,9 +23,9 @@ pub from-spec : {M : Type 1} → statement M
 from-spec =
     tie.close
     (tie.spec
-    sub-result
-    part-result-start
-    part-result-end
-    slice-aggregate-result
+    (λ c. search needs)
+    (λ c. search needs)
+    (λ c. search needs)
+    (λ c. search needs)
     returns
     returns-2)

@@ -1,6 +1,8 @@
--- `text::read_name` meets its contract. The bytes of the string are passed one by one (`Passed`), so at each `return` its length is known, and the
--- hash so far is that of the bytes passed. Rests on `passed-stops`, `passed-ends`, `passed-next` and `passed-below`, on `text-ended`, `text-long` and
--- `text-cut` for the answer, `string-read`, `string-filled`, `hash-none` and `hash-one-more` for the hash, and on what `times31` and `signed` ensure.
+-- `text::read_name` meets its contract. The bytes of the string are passed one by one (`Passed`),
+-- so at each `return` its length is known, and the hash so far is that of the bytes passed. Rests
+-- on `passed-stops`, `passed-ends`, `passed-next` and `passed-below`, on `text-ended`, `text-long`
+-- and `text-cut` for the answer, `string-read`, `string-filled`, `hash-none` and `hash-one-more`
+-- for the hash, and on what `times31` and `signed` ensure.
 use Prim.Native.Nat.{ℕ, _+_, _-_, _*_, _%_, _^_, _≤_, _<_}
 use mathlib.Core.Path.{_≡_, sym, ap, _∙_}
 use mathlib.Core.List.{List}
@@ -36,12 +38,6 @@ abbrev μ-loop : tie.MeasureT-loop
 loop-holds : tie.Need-loop-holds Inv-loop μ-loop
 loop-holds c = (omega arith, omega arith, omega arith, sym hash-none)
 
-shared-slice-read-byte : tie.Need-shared-slice-read-byte Inv-loop μ-loop
-shared-slice-read-byte c = search needs
-
-ended-requires : tie.Need-ended-requires Inv-loop μ-loop
-ended-requires c κs = search needs
-
 returns : tie.Need-returns Inv-loop μ-loop
 returns c =
     let l = c .before .before .before .before in
@@ -58,21 +54,6 @@ returns-2 c =
     let nz = c .before .if1 .left in
     let e = passed-below t (l .loop .i) (l .loop .inv .2) nz in
     (text-long 255 t (l .loop .i) (l .loop .inv .2) (c .if2 .taken) nz, hash-of-front t (c .if2 .taken) (omega arith) (l .loop .inv .3))
-
-times31-requires : tie.Need-times31-requires Inv-loop μ-loop
-times31-requires c κs = search needs
-
-signed-requires : tie.Need-signed-requires Inv-loop μ-loop
-signed-requires c κs = search needs
-
-wrapping-add-u32-requires : tie.Need-wrapping-add-u32-requires Inv-loop μ-loop
-wrapping-add-u32-requires c κs = search needs
-
-add-i : tie.Need-add-i Inv-loop μ-loop
-add-i c = search needs
-
-loop-less : tie.Need-loop-less Inv-loop μ-loop
-loop-less c = search needs
 
 loop-again : tie.Need-loop-again Inv-loop μ-loop
 loop-again c =
@@ -103,14 +84,14 @@ read-name-spec =
     Inv-loop
     μ-loop
     loop-holds
-    shared-slice-read-byte
-    ended-requires
+    (λ c. search needs)
+    (λ c κs. search needs)
     returns
     returns-2
-    times31-requires
-    signed-requires
-    wrapping-add-u32-requires
-    add-i
-    loop-less
+    (λ c κs. search needs)
+    (λ c κs. search needs)
+    (λ c κs. search needs)
+    (λ c. search needs)
+    (λ c. search needs)
     loop-again
     returns-3)

@@ -1,6 +1,8 @@
--- `text::read_path` meets its contract. The bytes of the string are passed one by one (`Passed`), so at each `return` its length is known. What is left
--- from the last segment's start on is that segment, as far as it is read, and the bytes not read yet; it and the segments before, judged together, are
--- the whole path judged (`Reading`). A segment is judged where it ends: `last-right`, `first-right`.
+-- `text::read_path` meets its contract. The bytes of the string are passed one by one (`Passed`),
+-- so at each `return` its length is known. What is left from the last segment's start on is that
+-- segment, as far as it is read, and the bytes not read yet; it and the segments before, judged
+-- together, are the whole path judged (`Reading`). A segment is judged where it ends: `last-right`,
+-- `first-right`.
 use Prim.Native.Nat.{ℕ, suc, _+_, _-_, _≤_, _<_}
 use mathlib.Core.Path.{_≡_, refl, sym, ap, _∙_}
 use mathlib.Core.Logic.{⊎-elim}
@@ -43,7 +45,8 @@ one-more t a i l g =
     let k : a + (i - a) ≡ i = omega arith in
     rw (e, take-suc (drop a t) (i - a) 0 (omega (arith, length-drop a t)), getD-drop, k)
 
--- i bytes are read, the last segment starts at a, and `right` says whether those before it are right
+-- i bytes are read, the last segment starts at a, and `right` says whether those before it are
+-- right
 record Reading (t : List ℕ) (right : Bool) (a i : ℕ) : Type 0 where
   started : a ≤ i
   inside : i ≤ length t
@@ -116,14 +119,8 @@ loop-holds c = record {
   judged = refl;
 }
 
-shared-slice-read-byte : tie.Need-shared-slice-read-byte Inv-loop μ-loop
-shared-slice-read-byte c = search needs
-
 right-to-requires : tie.Need-right-to-requires Inv-loop μ-loop
 right-to-requires c κs = (omega arith, omega arith)
-
-ended-requires : tie.Need-ended-requires Inv-loop μ-loop
-ended-requires c κs = search needs
 
 returns : tie.Need-returns Inv-loop μ-loop
 returns c =
@@ -149,15 +146,6 @@ returns-2 c =
 
 right-to-requires-3 : tie.Need-right-to-requires-3 Inv-loop μ-loop
 right-to-requires-3 c κs = (omega arith, omega arith)
-
-add-start : tie.Need-add-start Inv-loop μ-loop
-add-start c = search needs
-
-add-i : tie.Need-add-i Inv-loop μ-loop
-add-i c = search needs
-
-loop-less : tie.Need-loop-less Inv-loop μ-loop
-loop-less c = search needs
 
 loop-again : tie.Need-loop-again Inv-loop μ-loop
 loop-again c =
@@ -186,16 +174,16 @@ read-path-spec =
     Inv-loop
     μ-loop
     loop-holds
-    shared-slice-read-byte
+    (λ c. search needs)
     right-to-requires
-    ended-requires
+    (λ c κs. search needs)
     returns
     right-to-requires-2
     returns-2
     right-to-requires-3
-    add-start
-    add-i
-    loop-less
+    (λ c. search needs)
+    (λ c. search needs)
+    (λ c. search needs)
     loop-again
     right-to-requires-4
     returns-3)

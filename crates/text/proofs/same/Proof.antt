@@ -1,5 +1,7 @@
--- `text::same` meets its contract. What is left of both compares as the whole does, and the bytes of the string are passed one by one (`Passed`).
--- Rests on `passed-stops`, `passed-ends`, `passed-next` and `judgement`, and on the facts below: where the comparison ends and how it goes on.
+-- `text::same` meets its contract. What is left of both compares as the whole does, and the bytes
+-- of the string are passed one by one (`Passed`). Rests on `passed-stops`, `passed-ends`,
+-- `passed-next` and `judgement`, and on the facts below: where the comparison ends and how it goes
+-- on.
 use Prim.Native.Nat.{ℕ, zero, suc, _+_, _-_, _≤_, _<_}
 use mathlib.Core.Path.{_≡_, refl, sym, _∙_}
 use mathlib.Core.List.{List, [], _∷_}
@@ -70,9 +72,6 @@ abbrev μ-loop : tie.MeasureT-loop
 loop-holds : tie.Need-loop-holds Inv-loop μ-loop
 loop-holds c = (omega arith, omega arith, omega arith, refl)
 
-shared-slice-read-if1 : tie.Need-shared-slice-read-if1 Inv-loop μ-loop
-shared-slice-read-if1 c = search needs
-
 returns : tie.Need-returns Inv-loop μ-loop
 unfolding isWhole
 returns c =
@@ -96,24 +95,12 @@ returns-3 c =
     let a = l .before .args in
     unequal-answers _ _ (sym (l .loop .inv .3) ∙ name-over (a .part .now) (a .name .now) (l .loop .i) (c .before .if1 .left) (omega arith))
 
-shared-slice-read-if4 : tie.Need-shared-slice-read-if4 Inv-loop μ-loop
-shared-slice-read-if4 c = search needs
-
-shared-slice-read-if4-2 : tie.Need-shared-slice-read-if4-2 Inv-loop μ-loop
-shared-slice-read-if4-2 c = search needs
-
 returns-4 : tie.Need-returns-4 Inv-loop μ-loop
 returns-4 c =
     let l = c .before .before .before .before .before .before .before in
     let a = l .before .args in
     let nz = c .before .before .before .before .if1 .left in
     unequal-answers _ _ (sym (l .loop .inv .3) ∙ bytes-differ (a .part .now) (a .name .now) (l .loop .i) nz (omega arith) (c .if4 .taken))
-
-add-i : tie.Need-add-i Inv-loop μ-loop
-add-i c = search needs
-
-loop-less : tie.Need-loop-less Inv-loop μ-loop
-loop-less c = search needs
 
 loop-again : tie.Need-loop-again Inv-loop μ-loop
 loop-again c =
@@ -140,14 +127,14 @@ same-spec =
     Inv-loop
     μ-loop
     loop-holds
-    shared-slice-read-if1
+    (λ c. search needs)
     returns
     returns-2
     returns-3
-    shared-slice-read-if4
-    shared-slice-read-if4-2
+    (λ c. search needs)
+    (λ c. search needs)
     returns-4
-    add-i
-    loop-less
+    (λ c. search needs)
+    (λ c. search needs)
     loop-again
     returns-5)

@@ -44,15 +44,6 @@ more-bytes (a ∷ []) l = absurd (omega arith)
 more-bytes (a ∷ b ∷ []) l = absurd (omega arith)
 more-bytes (a ∷ b ∷ c ∷ p) l = simp and-false
 
-shared-slice-read-result : tie.Need-shared-slice-read-result
-shared-slice-read-result c = search needs
-
-shared-slice-read-if1 : tie.Need-shared-slice-read-if1
-shared-slice-read-if1 c = search needs
-
-shared-slice-read-result-2 : tie.Need-shared-slice-read-result-2
-shared-slice-read-result-2 c = search needs
-
 returns : tie.Need-returns
 returns c = sym (no-byte (c .before .args .segment .now) (omega arith))
 
@@ -74,9 +65,9 @@ pub segment-right-spec : {M : Type 1} → statement M
 segment-right-spec =
     tie.close
     (tie.spec
-    shared-slice-read-result
-    shared-slice-read-if1
-    shared-slice-read-result-2
+    (λ c. search needs)
+    (λ c. search needs)
+    (λ c. search needs)
     returns
     returns-2
     returns-3

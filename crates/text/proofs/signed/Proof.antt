@@ -1,5 +1,5 @@
--- `text::signed` meets its contract: what it answers and the signed number are the same when 128 is added to both and
--- wrapped. Rests on `signed-raised` and `taken-away`.
+-- `text::signed` meets its contract: what it answers and the signed number are the same when 128 is
+-- added to both and wrapped. Rests on `signed-raised` and `taken-away`.
 use mathlib.Core.Path.{sym, _∙_}
 use native.Mathlib.Nat.{mod-eq-of-lt}
 use native.Mathlib.Omega.{arith}
@@ -10,15 +10,6 @@ use Rattle.text.proofs.Wrapping.{taken-away}
 use Rattle.text.proofs.signed.Statement.{statement}
 use Rattle.text.proofs.signed.Tie as tie
 
-wrapping-add-u8-requires : tie.Need-wrapping-add-u8-requires
-wrapping-add-u8-requires c κs = search needs
-
-cast-raised : tie.Need-cast-raised
-cast-raised c = search needs
-
-wrapping-sub-u32-requires : tie.Need-wrapping-sub-u32-requires
-wrapping-sub-u32-requires c κs = search needs
-
 returns : tie.Need-returns
 returns c =
     let b = c .before .before .args .byte in
@@ -28,4 +19,4 @@ returns c =
 
 pub signed-spec : {M : Type 1} → statement M
 signed-spec =
-    tie.close (tie.spec wrapping-add-u8-requires cast-raised wrapping-sub-u32-requires returns)
+    tie.close (tie.spec (λ c κs. search needs) (λ c. search needs) (λ c κs. search needs) returns)

@@ -4,11 +4,8 @@ use Rattle.text.proofs.Wrapping.{shifted-less-itself}
 use Rattle.text.proofs.times31.Statement.{statement}
 use Rattle.text.proofs.times31.Tie as tie
 
-wrapping-sub-u32-requires : tie.Need-wrapping-sub-u32-requires
-wrapping-sub-u32-requires c κs = search needs
-
 returns : tie.Need-returns
 returns c = shifted-less-itself (c .before .args .h) (c .wrapping-sub-u32 .ok) (c .wrapping-sub-u32 .ensures)
 
 pub times31-spec : {M : Type 1} → statement M
-times31-spec = tie.close (tie.spec wrapping-sub-u32-requires returns)
+times31-spec = tie.close (tie.spec (λ c κs. search needs) returns)

@@ -1,5 +1,5 @@
--- `cases::walks::count_found` is safe and ends: one icon each turn, and no more are found than were asked for.
--- Assumes nothing.
+-- `cases::walks::count_found` is safe and ends: one icon each turn, and no more are found than were
+-- asked for. Assumes nothing.
 use Prim.Native.Nat.{_≤_, _-_}
 use mathlib.Core.Logic.{⊎-elim}
 use native.Mathlib.Omega.{arith}
@@ -13,26 +13,8 @@ Inv-loop cache count₀ i₀ count i = (i ≤ 90) × (count ≤ i)
 abbrev μ-loop : tie.MeasureT-loop
 μ-loop cache count₀ i₀ count i = 90 - i
 
-loop-holds : tie.Need-loop-holds Inv-loop μ-loop
-loop-holds c = search needs
-
-found-requires : tie.Need-found-requires Inv-loop μ-loop
-found-requires c κs = search needs
-
-add-count : tie.Need-add-count Inv-loop μ-loop
-add-count c = search needs
-
-add-i : tie.Need-add-i Inv-loop μ-loop
-add-i c = search needs
-
-loop-less : tie.Need-loop-less Inv-loop μ-loop
-loop-less c = search needs
-
 loop-again : tie.Need-loop-again Inv-loop μ-loop
 loop-again c = ⊎-elim (λ w. omega arith) (λ w. omega arith) (c .if1 .came)
-
-returns : tie.Need-returns Inv-loop μ-loop
-returns c = search needs
 
 pub count-found-spec : {M : Type 1} → statement M
 count-found-spec =
@@ -40,10 +22,10 @@ count-found-spec =
     (tie.spec
     Inv-loop
     μ-loop
-    loop-holds
-    found-requires
-    add-count
-    add-i
-    loop-less
+    (λ c. search needs)
+    (λ c κs. search needs)
+    (λ c. search needs)
+    (λ c. search needs)
+    (λ c. search needs)
     loop-again
-    returns)
+    (λ c. search needs))

@@ -1,29 +1,19 @@
--- `Position::next` meets its contract: the header and the position are judged in this order, one law for each (`position-header`,
--- `position-no-bucket`, `position-counts-too-far`, `position-right`).
+-- `Position::next` meets its contract: the header and the position are judged in this order, one
+-- law for each (`position-header`, `position-no-bucket`, `position-counts-too-far`,
+-- `position-right`).
 use mathlib.Core.Path.{_≡_, sym, _∙_}
 use native.Mathlib.Omega.{arith}
 use borrow.Author.Needs.{needs}
 use denote.Ref.{now}
 use Rattle.format.specs.Header.{headerFault}
 use Rattle.format.specs.Laws.Faults.{same-number}
-use Rattle.format.specs.Laws.Header.{header-right}
-use Rattle.tables.specs.Tables.{Right}
-use Rattle.tables.specs.Laws.{right-buckets}
+use Rattle.tables.specs.Laws.{right-header, right-buckets}
 use Rattle.listing.specs.Laws.Steps.{position-header, position-no-bucket, position-counts-too-far, position-right, step-refuses, step-goes}
 use Rattle.listing.proofs.Position.next.Statement.{statement}
 use Rattle.listing.proofs.Position.next.Tie as tie
 
-header-requires : tie.Need-header-requires
-header-requires c κs = search needs
-
 header-kept : (c : tie.Else1) → headerFault (now (c .before .before .before .before .args .cache)) .number ≡ 0
 header-kept c = rw (c .before .before .header .ensures) at (c .if1 .left)
-
-right : (c : tie.After-read) → Right (now (c .before .before .before .before .before .args .cache)) (c .read .result)
-right c = record { header = header-kept (c .before); tables = c .read .ensures }
-
-stay-requires : tie.Need-stay-requires
-stay-requires c κs = search needs
 
 returns : tie.Need-returns
 returns c =
@@ -31,57 +21,43 @@ returns c =
     let broken = position-header _ _ (rw (hdr .ensures) at (c .before .if1 .taken)) ∙ sym (hdr .ensures) in
     c .stay .ensures ∙ sym (step-refuses _ _ broken (c .before .if1 .taken))
 
-read-requires : tie.Need-read-requires
-read-requires c κs = header-kept c
-
-stay-requires-2 : tie.Need-stay-requires-2
-stay-requires-2 c κs = search needs
-
 returns-2 : tie.Need-returns-2
 returns-2 c =
     let tabled = c .before .before .before .before in
-    let beyond = position-no-bucket _ _ (header-kept (tabled .before)) (rw (right-buckets (right tabled)) at (c .before .if2 .taken)) in
+    let beyond = position-no-bucket _ _ (tabled .read .ensures .header) (rw (right-buckets (tabled .read .ensures)) at (c .before .if2 .taken)) in
     c .stay2 .ensures ∙ sym (step-refuses _ _ beyond (λ z. omega arith))
-
-sub-if3 : tie.Need-sub-if3
-sub-if3 c =
-    let kept = c .before .before .before .before in
-    omega (arith, header-right (now (kept .before .before .before .before .args .cache)) (header-kept kept) .header-inside)
-
-stay-requires-3 : tie.Need-stay-requires-3
-stay-requires-3 c κs = search needs
 
 returns-3 : tie.Need-returns-3
 returns-3 c =
     let tabled = c .before .before .before .before .before .before in
-    let named = rw (right-buckets (right tabled)) at (c .before .before .before .if2 .left) in
-    let beyond = position-counts-too-far _ _ (header-kept (tabled .before)) named (c .before .if3 .taken) in
+    let named = rw (right-buckets (tabled .read .ensures)) at (c .before .before .before .if2 .left) in
+    let beyond = position-counts-too-far _ _ (tabled .read .ensures .header) named (c .before .if3 .taken) in
     c .stay3 .ensures ∙ sym (step-refuses _ _ beyond (λ z. omega arith))
 
 onward-requires : tie.Need-onward-requires
 onward-requires c κs =
     let tabled = c .before .before .before .before .before in
-    (right tabled, (rw (right-buckets (right tabled)) at (c .before .before .if2 .left), c .if3 .left))
+    (tabled .read .ensures, (rw (right-buckets (tabled .read .ensures)) at (c .before .before .if2 .left), c .if3 .left))
 
 returns-4 : tie.Need-returns-4
 returns-4 c =
     let tabled = c .before .before .before .before .before .before in
-    let named = rw (right-buckets (right tabled)) at (c .before .before .before .if2 .left) in
-    let none = position-right _ _ (header-kept (tabled .before)) named (c .before .if3 .left) in
+    let named = rw (right-buckets (tabled .read .ensures)) at (c .before .before .before .if2 .left) in
+    let none = position-right _ _ (tabled .read .ensures .header) named (c .before .if3 .left) in
     c .onward .ensures ∙ sym (step-goes _ _ (same-number none))
 
 pub next-spec : {M : Type 1} → statement M
 next-spec =
     tie.close
     (tie.spec
-    header-requires
-    stay-requires
+    (λ c κs. search needs)
+    (λ c κs. search needs)
     returns
-    read-requires
-    stay-requires-2
+    (λ c κs. header-kept c)
+    (λ c κs. search needs)
     returns-2
-    sub-if3
-    stay-requires-3
+    (λ c. omega (arith, right-header (c .before .before .before .read .ensures)))
+    (λ c κs. search needs)
     returns-3
     onward-requires
     returns-4)

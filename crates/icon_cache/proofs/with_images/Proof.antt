@@ -1,5 +1,6 @@
--- `icon_cache::found` meets its contract: the room decides between the two answers (`met-short`, `met-enough`), and with enough of it what
--- `write_images` leaves in the words is what the definition asks for.
+-- `icon_cache::with_images` meets its contract: the room decides between the two answers
+-- (`met-short`, `met-enough`), and with enough of it what `write_images` leaves in the words is
+-- what the definition asks for.
 use mathlib.Core.Path.{_≡_, refl, ap, sym, _∙_}
 use native.Mathlib.Omega.{arith}
 use borrow.Author.Needs.{needs}
@@ -8,8 +9,8 @@ use Rattle.format.specs.Number.{be}
 use Rattle.format.specs.Record.{imagesAt, images}
 use Rattle.format.specs.Call.{answerWords}
 use Rattle.format.specs.Laws.Lookup.{met-short, met-enough}
-use Rattle.icon_cache.proofs.found.Statement.{statement}
-use Rattle.icon_cache.proofs.found.Tie as tie
+use Rattle.icon_cache.proofs.with_images.Statement.{statement}
+use Rattle.icon_cache.proofs.with_images.Tie as tie
 
 list-at : (c : tie.After-u32-at) → let a = c .before .before .before .args in c .u32-at .result ≡ imagesAt (now (a .cache)) (a .met)
 list-at c = c .u32-at .ensures
@@ -17,36 +18,12 @@ list-at c = c .u32-at .ensures
 images-are : (c : tie.After-u32-at2) → let a = c .before .before .before .before .args in c .u32-at2 .result ≡ images (now (a .cache)) (a .met)
 images-are c = c .u32-at2 .ensures ∙ ap (be 4 (now (c .before .before .before .before .args .cache))) (list-at (c .before))
 
-add-u32-at : tie.Need-add-u32-at
-add-u32-at c = search needs
-
-u32-at-requires : tie.Need-u32-at-requires
-u32-at-requires c κs = search needs
-
-cast-at : tie.Need-cast-at
-cast-at c = search needs
-
-u32-at-requires-2 : tie.Need-u32-at-requires-2
-u32-at-requires-2 c κs = search needs
-
-cast-images : tie.Need-cast-images
-cast-images c = search needs
-
-mul-if1 : tie.Need-mul-if1
-mul-if1 c = search needs
-
 returns : tie.Need-returns
 unfolding answerWords
 returns c = (rw (images-are (c .before), list-at (c .before .before)) (sym (met-short _ _ _ _ (rw (← (images-are (c .before))) (c .if1 .taken)))), refl)
 
-add-write-images : tie.Need-add-write-images
-add-write-images c = search needs
-
 write-images-requires : tie.Need-write-images-requires
 write-images-requires c κs = (omega (arith, images-are (c .before .before), list-at (c .before .before .before), c .before .before .before .before .before .before .pre .1), omega (arith, c .before .if1 .left))
-
-same-length : tie.Need-same-length
-same-length c = search needs
 
 returns-2 : tie.Need-returns-2
 unfolding answerWords
@@ -57,18 +34,18 @@ returns-2 c =
       c .before .before .write-images .ensures ∙ rw (list-at (list .before)),
     )
 
-pub found-spec : {M : Type 1} → statement M
-found-spec =
+pub with-images-spec : {M : Type 1} → statement M
+with-images-spec =
     tie.close
     (tie.spec
-    add-u32-at
-    u32-at-requires
-    cast-at
-    u32-at-requires-2
-    cast-images
-    mul-if1
+    (λ c. search needs)
+    (λ c κs. search needs)
+    (λ c. search needs)
+    (λ c κs. search needs)
+    (λ c. search needs)
+    (λ c. search needs)
     returns
-    add-write-images
+    (λ c. search needs)
     write-images-requires
-    same-length
+    (λ c. search needs)
     returns-2)

@@ -1,0 +1,64 @@
+-- Which numbers a judgement can give: 0, or one of a list; the test computes, so that a number that
+-- is not among them is refuted by it.
+use Prim.Native.Nat.{ℕ, zero, suc}
+use mathlib.Core.Path.{_≡_, refl, sym, _∙_}
+use mathlib.Core.List.{List, [], _∷_}
+use mathlib.Core.Bool.{Bool, true, false, _&&_, _||_, and-eq-true-iff, false≢true}
+use native.Mathlib.Omega.{arith}
+use borrow.Author.Tests.{eqb-true}
+use lib.Dec.{eqb}
+use Rattle.format.specs.Fault.{unless, _orElse_}
+use Rattle.format.specs.declared.Fault.{Fault}
+use Rattle.format.specs.Laws.Faults.{orElse-first, orElse-next}
+
+abbrev pub listed : ℕ → List ℕ → Bool
+listed x [] = false
+listed x (n ∷ ns) = eqb x n || listed x ns
+
+pub record OneOf (ns : List ℕ) (x : ℕ) : Type 0 where
+  pub one : listed x (0 ∷ ns) ≡ true
+
+-- the numbers of rules: on the header, on a path, on a record, at a field of a chain
+abbrev pub headerNumbers : List ℕ
+headerNumbers = 1 ∷ 2 ∷ 3 ∷ 4 ∷ 5 ∷ []
+
+abbrev pub tablesNumbers : List ℕ
+tablesNumbers = 6 ∷ 16 ∷ headerNumbers
+
+abbrev pub recordNumbers : List ℕ
+recordNumbers = 8 ∷ 9 ∷ 10 ∷ 11 ∷ []
+
+abbrev pub linkNumbers : List ℕ
+linkNumbers = 7 ∷ recordNumbers
+
+-- another number is none of them
+pub never : {ns : List ℕ} {x : ℕ} (n : ℕ) → OneOf ns x → listed n (0 ∷ ns) ≡ false → x ≡ n → ⊥
+never n h out e = false≢true (sym out ∙ rw e at (h .one))
+
+module _ {ns : List ℕ} where
+  pub unless-one : (b : Bool) (n p : ℕ) → listed n (0 ∷ ns) ≡ true → OneOf ns (unless b n p .number)
+  unless-one true n p h = record { one = refl }
+  unless-one false n p h = record { one = h }
+
+  pub orElse-one : (x y : Fault) → OneOf ns (x .number) → OneOf ns (y .number) → OneOf ns ((x orElse y) .number)
+  orElse-one x y h g = go (x .number) refl
+    where
+      go : (n : ℕ) → x .number ≡ n → OneOf ns ((x orElse y) .number)
+      go zero e = rw (orElse-next x y e) g
+      go (suc n) e = rw (orElse-first x y (λ z. omega arith)) h
+
+-- more numbers
+abbrev pub includes : List ℕ → List ℕ → Bool
+includes ms [] = true
+includes ms (n ∷ ns) = listed n ms && includes ms ns
+
+listed-in : (ns ms : List ℕ) (x : ℕ) → includes ms ns ≡ true → listed x ns ≡ true → listed x ms ≡ true
+listed-in [] ms x h e = absurd (false≢true e)
+listed-in (n ∷ ns) ms x h e = go (eqb x n) refl (listed-in ns ms x (and-eq-true-iff (listed n ms) _ .0 h .1))
+  where
+    go : (b : Bool) → eqb x n ≡ b → (listed x ns ≡ true → listed x ms ≡ true) → listed x ms ≡ true
+    go true q rest = rw (eqb-true x n q) (and-eq-true-iff (listed n ms) _ .0 h .0)
+    go false q rest = rest (rw q at e)
+
+pub widened : {ns ms : List ℕ} {x : ℕ} → includes (0 ∷ ms) (0 ∷ ns) ≡ true → OneOf ns x → OneOf ms x
+widened {ns} {ms} {x} h e = record { one = listed-in (0 ∷ ns) (0 ∷ ms) x h (e .one) }

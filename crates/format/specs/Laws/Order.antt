@@ -1,0 +1,66 @@
+-- The list of all records in the check's order: where each stands in it.
+use Prim.Native.Nat.{ℕ, zero, suc, _+_, _-_, _≤_, _<_}
+use mathlib.Core.Path.{_≡_, refl, ap, _∙_}
+use mathlib.Core.List.{List, [], _∷_}
+use native.Mathlib.Decide.{ℕ-discrete, decLt}
+use native.Mathlib.Omega.{arith}
+use lib.ListN.{length, getD, length-append, List·getD-append}
+use lib.Seq.{getD-at, getD-append-add}
+use Rattle.format.specs.Chain.{Chain, chainOf, mostRecords, recordsBelow}
+use Rattle.format.specs.Words.{link, Holds, Lengths, sum}
+use Rattle.format.specs.Laws.Along.{links, links-length, holds-chain}
+use Rattle.format.specs.Laws.Apart.{holds-few}
+
+links-at : (s : List ℕ) (k n m : ℕ) → m < n → getD (links s k n) m 0 ≡ link s k m
+unfolding links
+links-at s k zero m l = absurd (omega arith)
+links-at s k (suc n) m l = elim (ℕ-discrete m n) [
+  | yes e ↦ rw e (getD-at (links s k n) (link s k n) [] 0 n (links-length s k n))
+  | no a ↦ List·getD-append (links s k n) (link s k n ∷ []) 0 m (omega (arith, links-length s k n)) ∙ links-at s k n m (omega arith)
+]
+
+module _ (f : ℕ → ℕ) where
+  -- the records of a chain come before those of a later one
+  pub sum-before : (k : ℕ) {j : ℕ} → j < k → sum f j + f j ≤ sum f k
+  unfolding sum
+  sum-before zero l = absurd (omega arith)
+  sum-before (suc k) {j} l = elim (ℕ-discrete j k) [
+    | yes e ↦ rw e (omega arith)
+    | no a ↦ let c : j < k = omega arith in omega (arith, sum-before k c)
+  ]
+
+  -- each number below the sum is that of a record
+  pub located : (k : ℕ) {n : ℕ} → n < sum f k → (j m : ℕ) × (j < k) × (m < f j) × (n ≡ sum f j + m)
+  unfolding sum
+  located zero l = absurd (omega arith)
+  located (suc k) {n} l = elim (decLt n (sum f k)) [
+    | yes c ↦ let (j, m, a, b, e) = located k c in (j, m, omega arith, b, e)
+    | no c ↦ (k, n - sum f k, omega arith, omega arith, omega arith)
+  ]
+
+module _ {s : List ℕ} (f : ℕ → ℕ) where
+  -- the records of a chain that holds
+  chain-records : (k : ℕ) → Holds s k (f k) → chainOf s k (mostRecords s) .records ≡ links s k (f k)
+  chain-records k h = ap (λ (c : Chain). c .records) (holds-chain s k (holds-few h) h)
+
+  pub records-length : (k : ℕ) → Lengths s k f → length (recordsBelow s k) ≡ sum f k
+  unfolding recordsBelow sum
+  records-length zero h = refl
+  records-length (suc k) h =
+      rw (chain-records k (h k (omega arith)))
+      (omega (arith, length-append (recordsBelow s k) (links s k (f k)), records-length k (λ j l. h j (omega arith)), links-length s k (f k)))
+
+  pub record-at : (k : ℕ) → Lengths s k f → {j m : ℕ} → j < k → m < f j → getD (recordsBelow s k) (sum f j + m) 0 ≡ link s j m
+  unfolding recordsBelow
+  record-at zero h l c = absurd (omega arith)
+  record-at (suc k) h {j} {m} l c =
+      let below : Lengths s k f = λ i g. h i (omega arith) in
+      elim (ℕ-discrete j k) [
+        | yes e ↦
+            rw (chain-records k (h k (omega arith)), e, ← (records-length k below)) (getD-append-add (recordsBelow s k) (links s k (f k)) m 0)
+            ∙ links-at s j (f j) m c
+        | no a ↦
+            let b : j < k = omega arith in
+            List·getD-append (recordsBelow s k) (chainOf s k (mostRecords s) .records) 0 (sum f j + m) (omega (arith, records-length k below, sum-before f k b))
+            ∙ record-at k below b c
+      ]

@@ -1,0 +1,76 @@
+-- `icon_cache::find` meets its contract: before the search 13 is judged and then the header, and
+-- the bucket searched is the name's.
+use Prim.Native.Nat.{_%_}
+use mathlib.Core.Path.{_≡_, sym, _∙_}
+use mathlib.Core.Bool.{true}
+use native.Mathlib.Nat.{mod-lt}
+use native.Mathlib.Omega.{arith}
+use borrow.Author.Needs.{needs}
+use borrow.Author.Tests.{not-true, not-false}
+use denote.Ref.{now}
+use Rattle.format.specs.Text.{allowed}
+use Rattle.format.specs.Header.{headerFault}
+use Rattle.format.specs.Record.{bucketOf}
+use Rattle.format.specs.Laws.Faults.{same-number}
+use Rattle.format.specs.Laws.Names.{allowed-short}
+use Rattle.format.specs.Laws.Hashes.{allowed-hash, hash-bucket}
+use Rattle.format.specs.Laws.Lookup.{query-unallowed, query-allowed, find-refuses, find-searches}
+use Rattle.tables.specs.Laws.{right-header, right-buckets}
+use Rattle.icon_cache.proofs.find.Statement.{statement}
+use Rattle.icon_cache.proofs.find.Tie as tie
+
+-- the name may be asked for, and the header is sound
+may-be : (c : tie.Else1) → allowed (now (c .before .before .before .before .before .args .name)) ≡ true
+may-be c = sym (c .before .before .asked .ensures .0) ∙ not-false _ (c .if1 .left)
+
+sound : (c : tie.Else2) → headerFault (now (c .before .before .before .before .before .before .before .before .args .cache)) .number ≡ 0
+sound c = same-number (sym (c .before .before .header .ensures)) ∙ c .if2 .left
+
+-- the bucket searched is the name's
+bucket-is : (c : tie.After-struct-known4)
+    → let may = c .before .before .before .before .before .before in
+    let a = may .before .before .before .before .before .args in
+    may .before .before .asked .result .hash % c .before .before .read .result .buckets ≡ bucketOf (now (a .cache)) (now (a .name))
+bucket-is c =
+    let may = c .before .before .before .before .before .before in
+    hash-bucket _ _ (may .before .before .asked .ensures .1 ∙ allowed-hash _ (may-be may)) (right-buckets (c .before .before .read .ensures))
+
+returns : tie.Need-returns
+returns c =
+    let refused = query-unallowed _ _ (sym (c .before .before .before .asked .ensures .0) ∙ not-true _ (c .before .if1 .taken)) in
+    c .unfound .ensures ∙ sym (find-refuses _ _ refused (λ z. omega arith))
+
+returns-2 : tie.Need-returns-2
+returns-2 c =
+    let header = c .before .before .before in
+    let refused = query-allowed _ _ (may-be (header .before)) ∙ sym (header .header .ensures) in
+    c .unfound2 .ensures ∙ sym (find-refuses _ _ refused (c .before .if2 .taken))
+
+search-requires : tie.Need-search-requires
+search-requires c κs =
+    let read = c .before .before in
+    let below = mod-lt _ (right-header (read .read .ensures) .buckets-some) in
+    (read .read .ensures, (rw (bucket-is c) below, (allowed-short _ (may-be (read .before .before .before .before)), sym (bucket-is c))))
+
+returns-3 : tie.Need-returns-3
+returns-3 c =
+    let known = c .before in
+    let kept = known .before .before .before in
+    let asks = same-number (query-allowed _ _ (may-be (kept .before .before .before))) ∙ sound kept in
+    c .search .ensures ∙ rw (bucket-is known) (sym (find-searches _ _ asks))
+
+pub find-spec : {M : Type 1} → statement M
+find-spec =
+    tie.close
+    (tie.spec
+    (λ c κs. search needs)
+    (λ c κs. search needs)
+    returns
+    (λ c κs. search needs)
+    (λ c κs. search needs)
+    returns-2
+    (λ c κs. sound c)
+    (λ c. search needs)
+    (λ c. let right = c .before .before .read .ensures in rw (right-buckets right) (right-header right .buckets-some))
+    search-requires
+    returns-3)
