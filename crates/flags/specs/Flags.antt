@@ -53,8 +53,8 @@ abbrev pub known : ℕ → Bool
 known k = leb k 1
 
 -- the flags x are 0 to 15, and both numberings are known
-abbrev pub flagsRight : ℕ → ℕ → ℕ → Bool
-flagsRight x j k = leb x 15 && known j && known k
+abbrev pub validFlags : ℕ → ℕ → ℕ → Bool
+validFlags x j k = leb x 15 && known j && known k
 
 abbrev pub flagsIs : ℕ → ℕ → ℕ → FlagsAnswer
 flagsIs n p x = record { number = n; place = p; flags = x }
@@ -63,7 +63,7 @@ flagsIs n p x = record { number = n; place = p; flags = x }
 -- and the result is then 0
 unfoldable pub answer : ℕ → ℕ → ℕ → FlagsAnswer
 answer x j k =
-    let f = unless (flagsRight x j k) 27 0 in
+    let f = unless (validFlags x j k) 27 0 in
     flagsIs (f .number) (f .place) (ifKept f (renumbered (numbering j) (numbering k) x) 0)
 
 -- the two calls: raw flags of the numbering k in document 01's, and back

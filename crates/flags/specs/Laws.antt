@@ -11,8 +11,8 @@ use lib.Dec.{eqb, leb}
 use Rattle.format.specs.Number.{be}
 use Rattle.format.specs.Fault.{unless}
 use Rattle.format.specs.Header.{directories}
-use Rattle.format.specs.Record.{indexRight, imageRight}
-use Rattle.flags.specs.Flags.{Flag, bitmap, xpm, svg, iconFile, Numbering, freedesktop, gtk, flagBit, renumbered, numbering, known, flagsRight, flagsIs, answer, flagsIn, ThereAndBack}
+use Rattle.format.specs.Record.{validIndex, validImage}
+use Rattle.flags.specs.Flags.{Flag, bitmap, xpm, svg, iconFile, Numbering, freedesktop, gtk, flagBit, renumbered, numbering, known, validFlags, flagsIs, answer, flagsIn, ThereAndBack}
 
 -- two functions agree on each number below n, as a test that antt computes
 abbrev pub agreeBelow : ℕ → (ℕ → ℕ) → (ℕ → ℕ) → Bool
@@ -58,25 +58,25 @@ unfolding renumbered
 renumbered-small n freedesktop x = omega arith
 renumbered-small n gtk x = omega arith
 
-pub right-facts : (x j k : ℕ) → flagsRight x j k ≡ true → (x ≤ 15) × (j ≤ 1) × (k ≤ 1)
-right-facts x j k e =
+pub valid-facts : (x j k : ℕ) → validFlags x j k ≡ true → (x ≤ 15) × (j ≤ 1) × (k ≤ 1)
+valid-facts x j k e =
     let parts = and-eq-true-iff (leb x 15 && known j) (known k) .0 e in
     let first-two = and-eq-true-iff (leb x 15) (known j) .0 (parts .0) in
     (leb-true x 15 (first-two .0), leb-true j 1 (first-two .1), leb-true k 1 (parts .1))
 
 -- the two answers
-pub answer-right : (x j k : ℕ) → x ≤ 15 → j ≤ 1 → k ≤ 1 → answer x j k ≡ flagsIs 0 0 (renumbered (numbering j) (numbering k) x)
+pub answer-valid : (x j k : ℕ) → x ≤ 15 → j ≤ 1 → k ≤ 1 → answer x j k ≡ flagsIs 0 0 (renumbered (numbering j) (numbering k) x)
 unfolding answer
-answer-right x j k small from to = rw (le-leb x 15 small, le-leb j 1 from, le-leb k 1 to)
+answer-valid x j k small from to = rw (le-leb x 15 small, le-leb j 1 from, le-leb k 1 to)
 
-pub answer-wrong : (x j k : ℕ) → flagsRight x j k ≡ false → answer x j k ≡ flagsIs 27 0 0
+pub answer-wrong : (x j k : ℕ) → validFlags x j k ≡ false → answer x j k ≡ flagsIs 27 0 0
 unfolding answer
 answer-wrong x j k e = rw e
 
 -- the place is always 0, so the number and the flags are the whole answer
 pub no-place : (x j k : ℕ) → flagsIs (answer x j k .number) 0 (answer x j k .flags) ≡ answer x j k
 unfolding answer
-no-place x j k = ap (λ p. flagsIs (answer x j k .number) p (answer x j k .flags)) (none (flagsRight x j k))
+no-place x j k = ap (λ p. flagsIs (answer x j k .number) p (answer x j k .flags)) (none (validFlags x j k))
   where
     none : (t : Bool) → 0 ≡ unless t 27 0 .place
     none true = refl
@@ -86,7 +86,7 @@ answer-back : (x j k : ℕ) → x ≤ 15 → j ≤ 1 → k ≤ 1 → answer (ans
 answer-back x j k small from to =
     let n = numbering j in
     let m = numbering k in
-    rw (answer-right x j k small from to, answer-right (renumbered n m x) k j (renumbered-small n m x) to from)
+    rw (answer-valid x j k small from to, answer-valid (renumbered n m x) k j (renumbered-small n m x) to from)
     (ap (flagsIs 0 0) (renumbered-back n m x small))
 
 pub there-and-back : (x k : ℕ) → x ≤ 15 → k ≤ 1 → ThereAndBack x k
@@ -94,8 +94,8 @@ there-and-back x k small low =
     record { in-out = answer-back x k 0 small low (omega arith); out-in = answer-back x 0 k small (omega arith) low }
 
 -- the flags of an image that keeps rule 11 are refused in no known numbering
-pub image-taken : (s : List ℕ) (p k : ℕ) → imageRight s p ≡ true → k ≤ 1 → flagsIn (be 2 s (p + 2)) k .number ≡ 0
+pub image-taken : (s : List ℕ) (p k : ℕ) → validImage s p ≡ true → k ≤ 1 → flagsIn (be 2 s (p + 2)) k .number ≡ 0
 image-taken s p k e low =
     let x = be 2 s (p + 2) in
-    let small = leb-true x 15 (and-eq-true-iff (indexRight (directories s) (be 2 s p)) (leb x 15) .0 e .1) in
-    rw (answer-right x k 0 small low (omega arith))
+    let small = leb-true x 15 (and-eq-true-iff (validIndex (directories s) (be 2 s p)) (leb x 15) .0 e .1) in
+    rw (answer-valid x k 0 small low (omega arith))

@@ -1,7 +1,7 @@
 // The flags of an image in two numberings: into document 01's numbering, and back.
 ghost use mathlib.Core.Path.{_≡_};
 ghost use Prim.Native.Nat.{_≤_};
-ghost use Rattle.flags.specs.Flags.{freedesktop, gtk, numbering, flagsRight, flagsIn, flagsOut};
+ghost use Rattle.flags.specs.Flags.{freedesktop, gtk, numbering, validFlags, flagsIn, flagsOut};
 ghost use Rattle.flags.specs.Flags as definition;
 
 // With number 0 the flags in the numbering asked for; with 27 they are 0. The place is always 0.
@@ -12,8 +12,8 @@ pub struct FlagsAnswer {
 }
 
 // Whether the flags are 0 to 15 and both numberings are known.
-fn right(flags: u16, from: u32, to: u32) -> bool
-    ensures { λ r. ⌜ r ≡ flagsRight flags from to ⌝ }
+fn valid(flags: u16, from: u32, to: u32) -> bool
+    ensures { λ r. ⌜ r ≡ validFlags flags from to ⌝ }
 {
     flags <= 15 && from <= 1 && to <= 1
 }
@@ -48,11 +48,11 @@ fn renumbered(flags: u16, from: u32, to: u32) -> u16
     }
 }
 
-// The same for any numbers, with 27 where one is not right.
+// The same for any numbers, with 27 where one is not valid.
 fn answer(flags: u16, from: u32, to: u32) -> FlagsAnswer
     ensures { λ r. ⌜ r ≡ definition.answer flags from to ⌝ }
 {
-    if right(flags, from, to) {
+    if valid(flags, from, to) {
         FlagsAnswer {
             number: 0,
             place: 0,

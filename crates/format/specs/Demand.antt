@@ -6,13 +6,13 @@ use mathlib.Core.Bool.{true}
 use mathlib.Core.Logic.{_↔_}
 use lib.ListN.{length}
 use Rattle.format.specs.Fault.{fault}
-use Rattle.format.specs.Text.{allowed}
+use Rattle.format.specs.String.{allowed}
 use Rattle.format.specs.Header.{tablesFault, directories, buckets, bucketField}
 use Rattle.format.specs.Record.{nameOf, bucketOf}
 use Rattle.format.specs.Chain.{itself}
 use Rattle.format.specs.Answer.{accepted, refused, lookedUp}
-use Rattle.format.specs.Call.{check, queryFault, lookup, metAnswer}
-use Rattle.format.specs.Words.{link, OnChain, KeepsAt, KeepsBelow, NoneBelow, Holds, Breaks, Turns, Sound, Accepted, Loops, Lengths, sum}
+use Rattle.format.specs.Call.{check, queryFault, lookup, foundAnswer}
+use Rattle.format.specs.Words.{link, OnChain, KeepsAt, KeepsBelow, NoneBelow, Holds, Breaks, Turns, TablesKept, Accepted, Loops, Lengths, sum}
 use Rattle.format.specs.declared.CheckAnswer.{CheckAnswer}
 use Rattle.format.specs.declared.LookupAnswer.{LookupAnswer}
 
@@ -36,23 +36,23 @@ LookupKept s name a = Accepted s → allowed name ≡ true → LookupDemand s na
 pub record Demand3 (s : List ℕ) : Type 0 where
   pub checks : CheckDemand s (check s)
   pub apart : Accepted s → (j k m n r : ℕ) → j < buckets s → k < buckets s → OnChain s j m r → OnChain s k n r → (j ≡ k) × (m ≡ n)
-  pub few : Accepted s → (f : ℕ → ℕ) → Lengths s (buckets s) f → sum f (buckets s) ≤ length s - 11
+  pub few : Accepted s → (len : ℕ → ℕ) → Lengths s (buckets s) len → sum len (buckets s) ≤ length s - 11
   pub looks-up : (name : List ℕ) (room : ℕ) → LookupKept s name (lookup s name room)
 
 -- The check's whole answer in these words: one of the four cases always stands.
 pub record CheckAnswers (s : List ℕ) : Type 0 where
-  pub accepts : Accepted s → (f : ℕ → ℕ) → Lengths s (buckets s) f
-      → check s ≡ accepted (directories s) (sum f (buckets s))
+  pub accepts : Accepted s → (len : ℕ → ℕ) → Lengths s (buckets s) len
+      → check s ≡ accepted (directories s) (sum len (buckets s))
   pub refuses-tables : (x p : ℕ) → tablesFault s ≡ fault (suc x) p → check s ≡ refused (suc x) p 0
-  pub refuses-record : (k n x p : ℕ) (f : ℕ → ℕ) → k < buckets s → Sound s → Lengths s k f → Breaks s k n x p
-      → check s ≡ refused x p (sum f k + n + itself x)
+  pub refuses-record : (k n x p : ℕ) (len : ℕ → ℕ) → k < buckets s → TablesKept s → Lengths s k len → Breaks s k n x p
+      → check s ≡ refused x p (sum len k + n + itself x)
   pub refuses-loop : (k : ℕ) → Loops s k → check s ≡ refused 12 (bucketField s k) (length s - 10)
 
 -- The answer of a lookup that comes to its walk; k is the name's bucket.
 pub record WalkAnswers (s name : List ℕ) (room k : ℕ) : Type 0 where
   pub absent : (n : ℕ) → Holds s k n → NoneBelow s name k n → lookup s name room ≡ lookedUp 30 0 0 n
   pub found : (n : ℕ) → KeepsBelow s k n → NoneBelow s name k n → KeepsAt s k n → nameOf s (link s k n) ≡ name
-      → lookup s name room ≡ metAnswer s room (link s k n) (n + 1)
+      → lookup s name room ≡ foundAnswer s room (link s k n) (n + 1)
   pub refuses-record : (n x p : ℕ) → Breaks s k n x p → NoneBelow s name k n → lookup s name room ≡ lookedUp x p 0 (n + itself x)
   pub refuses-loop : Turns s k → ((n : ℕ) → nameOf s (link s k n) ≡ name → ⊥)
       → lookup s name room ≡ lookedUp 12 (bucketField s k) 0 (length s - 10)

@@ -1,5 +1,4 @@
--- The farm cache of document 01, its examples P1 to P12 as one list, and some paths of request 4 as
--- another.
+-- The farm cache of document 01, and its examples P1 to P12 as one list.
 use Prim.Native.Nat.{ℕ, _+_}
 use mathlib.Core.List.{List, [], _∷_, _++_}
 use mathlib.Core.Bool.{Bool, true, _&&_}
@@ -7,13 +6,13 @@ use lib.ListN.{length, take, drop, replicate}
 use lib.Dec.{T, eqb}
 use Rattle.format.specs.Number.{be}
 use Rattle.format.specs.Fault.{_orElse_}
-use Rattle.format.specs.Text.{string, text, isWhole, sameBytes, signed, hashFrom, hashNumbers, hash, allowed}
-use Rattle.format.specs.Segments.{segments, segmentRight, allRight}
+use Rattle.format.specs.String.{string, extent, isWhole, sameBytes, signed, hashFrom, hashNumbers, hash, allowed}
+use Rattle.format.specs.Segments.{segments, firstPiece, laterPieces, validSegment, allValid}
 use Rattle.format.specs.Header.{headerFault, pathFault, pathsFault, tablesFault}
 use Rattle.format.specs.Record.{imagesFault, nameFault, listFault, recordFault, imageWords}
 use Rattle.format.specs.Chain.{linkFault, follow, chain}
 use Rattle.format.specs.Answer.{accepted, refused, lookedUp, directoryIs}
-use Rattle.format.specs.Call.{check, checkBuckets, unnamed, firstNamed, searchBucket, queryFault, find, withImages, lookup, metAnswer, answerWords, lookupWords, directoryFault, directory, directoryPath}
+use Rattle.format.specs.Call.{check, checkBuckets, firstNamed, searchBucket, queryFault, find, withImages, lookup, foundAnswer, answerWords, lookupWords, directoryFault, directory, directoryPath}
 use Rattle.format.specs.declared.CheckAnswer.{CheckAnswer}
 use Rattle.format.specs.declared.LookupAnswer.{LookupAnswer}
 use Rattle.format.specs.declared.DirectoryAnswer.{DirectoryAnswer}
@@ -31,9 +30,9 @@ farm =
     49 ∷ 54 ∷ 0 ∷ 54 ∷ 52 ∷ 0 ∷ 104 ∷ 101 ∷ 110 ∷ 0 ∷ 111 ∷ 97 ∷ 116 ∷ 0 ∷ 99 ∷ 111 ∷ 119 ∷ 0 ∷
     []
 
--- the bytes vs from `at` on
+-- the bytes vs from p on
 unfoldable pub patched : ℕ → List ℕ → List ℕ → List ℕ
-patched at vs s = take at s ++ vs ++ drop (at + length vs) s
+patched p vs s = take p s ++ vs ++ drop (p + length vs) s
 
 -- a call and what it has to answer
 pub data Example : Type 0 where
@@ -104,21 +103,6 @@ examples =
     names farm 2 (directoryIs 15 0) [] ∷
     []
 
--- Request 4, in the two paths of the farm cache, at 108 and 111: ".." and "6/" are refused with 16
--- and ".x" is good; a leading slash stays 6. 16 comes straight after 6 of the same path and before
--- the next path. Only its own directory is refused, and a lookup looks at no path.
-unfoldable pub pathExamples : List Example
-pathExamples =
-    checks (patched 108 (46 ∷ 46 ∷ []) farm) (refused 16 100 0) ∷
-    checks (patched 111 (54 ∷ 47 ∷ []) farm) (refused 16 104 0) ∷
-    checks (patched 111 (46 ∷ 120 ∷ []) farm) (accepted 2 3) ∷
-    checks (patched 108 (46 ∷ 46 ∷ 0 ∷ 47 ∷ 52 ∷ []) farm) (refused 16 100 0) ∷
-    checks (patched 108 (47 ∷ 46 ∷ 0 ∷ 46 ∷ 46 ∷ []) farm) (refused 6 100 0) ∷
-    names (patched 111 (46 ∷ 46 ∷ []) farm) 0 (directoryIs 0 0) (49 ∷ 54 ∷ []) ∷
-    names (patched 111 (46 ∷ 46 ∷ []) farm) 1 (directoryIs 16 104) [] ∷
-    looksUp (patched 108 (46 ∷ 46 ∷ []) farm) oat (lent 5) (lookedUp 0 40 1 2) (1 ∷ 0 ∷ 7 ∷ 7 ∷ 7 ∷ []) ∷
-    []
-
-examples-hold : T (all pathExamples && all examples)
-unfolding all holds examples pathExamples lent looped patched farm cow oat pig ewe sameCheck sameLookup sameDirectory check checkBuckets unnamed firstNamed searchBucket queryFault find withImages lookup metAnswer answerWords directoryFault directory directoryPath linkFault follow chain recordFault nameFault listFault imagesFault imageWords headerFault segments segmentRight allRight pathFault pathsFault tablesFault _orElse_ text string isWhole sameBytes signed hashFrom hashNumbers hash allowed be
+examples-hold : T (all examples)
+unfolding all holds examples lent looped patched farm cow oat pig ewe sameCheck sameLookup sameDirectory check checkBuckets firstNamed searchBucket queryFault find withImages lookup foundAnswer answerWords directoryFault directory directoryPath linkFault follow chain recordFault nameFault listFault imagesFault imageWords headerFault segments firstPiece laterPieces validSegment allValid pathFault pathsFault tablesFault _orElse_ extent string isWhole sameBytes signed hashFrom hashNumbers hash allowed be
 examples-hold = tt

@@ -1,24 +1,24 @@
--- Which rule is broken first, and where. A fault with number 0 says that none is.
+-- Which rule is broken first, and where. A verdict with number 0 says that none is.
 use Prim.Native.Nat.{ℕ, zero, suc}
 use mathlib.Core.Bool.{Bool, true, false}
 use Rattle.format.specs.declared.Fault.{Fault}
 
 abbrev pub fault : ℕ → ℕ → Fault
-fault n p = record { number = n; place = p }
+fault x p = record { number = x; place = p }
 
 abbrev pub noFault : Fault
 noFault = fault 0 0
 
--- rule n is broken at p, unless the test holds
+-- rule x is broken at p, unless the test holds
 abbrev pub unless : Bool → ℕ → ℕ → Fault
-unless true n p = noFault
-unless false n p = fault n p
+unless true x p = noFault
+unless false x p = fault x p
 
 infixr 20 _orElse_
--- the first of two judgements if it names a broken rule, else the second
+-- the first of two verdicts if it names a broken rule, else the second
 unfoldable pub _orElse_ : Fault → Fault → Fault
-_orElse_ x y = elim (x .number) [ zero ↦ y | suc n ↦ x ]
+_orElse_ v w = elim (v .number) [ zero ↦ w | suc x ↦ v ]
 
--- a where no rule is broken, and b where one is
+-- a where the verdict names no broken rule, and b where it names one
 abbrev pub ifKept : {A : Type 0} → Fault → A → A → A
-ifKept {A} x a b = elim (x .number) as (λ n. A) [ zero ↦ a | suc n ↦ b ]
+ifKept {A} v a b = elim (v .number) as (λ n. A) [ zero ↦ a | suc x ↦ b ]

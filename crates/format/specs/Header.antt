@@ -1,23 +1,25 @@
--- The header, the directory list and the hash: rules 1 to 6, and 16.
+-- The header, the directory list and the hash: document 01's tables; rules 1 to 6, and request 4's 16.
 use Prim.Native.Nat.{ℕ, zero, suc}
 use mathlib.Core.List.{List}
 use mathlib.Core.Bool.{Bool, not, _&&_}
 use lib.ListN.{length, getD, drop}
 use lib.Dec.{ltb, leb, eqb}
 use Rattle.format.specs.Layout.{headerSize, majorField, minorField, hashField, directoriesField, fieldSize, entryField, mostBytes, mostDirectories, longestPath}
-use Rattle.format.specs.Number.{be, inside, listInside}
+use Rattle.format.specs.Number.{be}
+use Rattle.format.specs.Part.{inside, listInside}
 use Rattle.format.specs.Fault.{noFault, unless, _orElse_}
-use Rattle.format.specs.Text.{string, text, isWhole}
-use Rattle.format.specs.Segments.{slash, segmentsRight}
+use Rattle.format.specs.String.{string, extent, isWhole}
+use Rattle.format.specs.Segments.{slash, validSegments}
 use Rattle.format.specs.declared.Fault.{Fault}
 
--- where the hash and the directory list stand, and their counts
-abbrev pub hashAt : List ℕ → ℕ
-hashAt s = be 4 s hashField
+-- where the hash stands, and how many buckets it has
+abbrev pub bucketsAt : List ℕ → ℕ
+bucketsAt s = be 4 s hashField
 
 abbrev pub buckets : List ℕ → ℕ
-buckets s = be 4 s (hashAt s)
+buckets s = be 4 s (bucketsAt s)
 
+-- where the directory list stands, and how many directories it has
 abbrev pub directoriesAt : List ℕ → ℕ
 directoriesAt s = be 4 s directoriesField
 
@@ -26,30 +28,30 @@ directories s = be 4 s (directoriesAt s)
 
 -- the field of bucket k
 abbrev pub bucketField : List ℕ → ℕ → ℕ
-bucketField s k = entryField (hashAt s) k
+bucketField s k = entryField (bucketsAt s) k
 
 -- the field of the path of directory i
 abbrev pub pathField : List ℕ → ℕ → ℕ
 pathField s i = entryField (directoriesAt s) i
 
 -- what rules 3 to 5 ask
-abbrev pub versionRight : List ℕ → Bool
-versionRight s = eqb (be 2 s majorField) 1 && eqb (be 2 s minorField) 0
+abbrev pub validVersion : List ℕ → Bool
+validVersion s = eqb (be 2 s majorField) 1 && eqb (be 2 s minorField) 0
 
-abbrev pub directoriesRight : List ℕ → Bool
-directoriesRight s = listInside s (directoriesAt s) fieldSize && leb (directories s) mostDirectories
+abbrev pub validDirectories : List ℕ → Bool
+validDirectories s = listInside s (directoriesAt s) fieldSize && leb (directories s) mostDirectories
 
-abbrev pub hashRight : List ℕ → Bool
-hashRight s = listInside s (hashAt s) fieldSize && ltb 0 (buckets s)
+abbrev pub validBuckets : List ℕ → Bool
+validBuckets s = listInside s (bucketsAt s) fieldSize && ltb 0 (buckets s)
 
 -- rules 1 to 5
 unfoldable pub headerFault : List ℕ → Fault
 headerFault s =
     unless (inside s 0 headerSize) 1 0
     orElse unless (leb (length s) mostBytes) 2 0
-    orElse unless (versionRight s) 3 0
-    orElse unless (directoriesRight s) 4 directoriesField
-    orElse unless (hashRight s) 5 hashField
+    orElse unless (validVersion s) 3 0
+    orElse unless (validDirectories s) 4 directoriesField
+    orElse unless (validBuckets s) 5 hashField
 
 -- the buffer from the path of directory i on, and the path
 abbrev pub pathPart : List ℕ → ℕ → List ℕ
@@ -59,14 +61,14 @@ abbrev pub pathOf : List ℕ → ℕ → List ℕ
 pathOf s i = string (pathPart s i)
 
 -- what rule 6 asks of the path of directory i: whole, and no slash first
-abbrev pub pathRight : List ℕ → ℕ → Bool
-pathRight s i = isWhole (text longestPath (pathPart s i)) && not (eqb (getD (pathOf s i) 0 0) slash)
+abbrev pub validPath : List ℕ → ℕ → Bool
+validPath s i = isWhole (extent longestPath (pathPart s i)) && not (eqb (getD (pathOf s i) 0 0) slash)
 
 -- rules 6 and 16 on the path of directory i
 unfoldable pub pathFault : List ℕ → ℕ → Fault
 pathFault s i =
-    unless (pathRight s i) 6 (pathField s i)
-    orElse unless (segmentsRight (pathOf s i)) 16 (pathField s i)
+    unless (validPath s i) 6 (pathField s i)
+    orElse unless (validSegments (pathOf s i)) 16 (pathField s i)
 
 -- the same on n paths from directory i on
 unfoldable pub pathsFault : ℕ → List ℕ → ℕ → Fault

@@ -68,12 +68,12 @@ pub record Turns (s : List ℕ) (k : ℕ) : Type 0 where
   pub keeps : (n : ℕ) → Keeps s k (link s k n)
 
 -- none of 1 to 6 and 16 stands
-abbrev pub Sound : List ℕ → Type 0
-Sound s = tablesFault s .number ≡ 0
+abbrev pub TablesKept : List ℕ → Type 0
+TablesKept s = tablesFault s .number ≡ 0
 
 -- all that is checked before the chain of bucket k held
 pub record HeldBefore (s : List ℕ) (k : ℕ) : Type 0 where
-  pub sound : Sound s
+  pub tables-kept : TablesKept s
   pub lower : (j : ℕ) → j < k → (n : ℕ) × Holds s j n
 
 -- none of 1 to 6 and 16 stands, and every chain holds
@@ -86,14 +86,14 @@ pub record Loops (s : List ℕ) (k : ℕ) : Type 0 where
   pub held : HeldBefore s k
   pub turns : Turns s k
 
--- the chains of the buckets below k hold, and f gives their lengths
+-- the chains of the buckets below k hold, and `len` gives their lengths
 abbrev pub Lengths : List ℕ → ℕ → (ℕ → ℕ) → Type 0
-Lengths s k f = (j : ℕ) → j < k → Holds s j (f j)
+Lengths s k len = (j : ℕ) → j < k → Holds s j (len j)
 
 -- the first n of these lengths added up
 unfoldable pub sum : (ℕ → ℕ) → ℕ → ℕ
-sum f zero = 0
-sum f (suc n) = sum f n + f n
+sum len zero = 0
+sum len (suc n) = sum len n + len n
 
 -- none of the first n records of bucket k's chain bears the name
 abbrev pub NoneBelow : List ℕ → List ℕ → ℕ → ℕ → Type 0

@@ -1,7 +1,7 @@
 // The types that the calls answer with. What they mean is in specs/.
 
 // What the string at the front of a slice is, within a limit.
-pub enum Text {
+pub enum Extent {
     // Ended by a zero byte after this many bytes, at least 1 and at most the limit.
     Whole(usize),
     Empty,
@@ -18,7 +18,7 @@ pub struct Fault {
 }
 
 // What a field leads to on a chain.
-pub enum Link {
+pub enum Next {
     // The end value: no further record.
     End,
     // A record that breaks a rule: the rule's number and its place.

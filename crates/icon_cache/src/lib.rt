@@ -7,18 +7,18 @@ ghost use Rattle.format.specs.Header.{buckets};
 ghost use Rattle.format.specs.Record.{imagesAt, images};
 ghost use Rattle.format.specs.Answer.{partIs};
 ghost use Rattle.format.specs.Answer as answers;
-ghost use Rattle.format.specs.Call.{checkBuckets, metAnswer, answerWords, lookupWords, directoryPart, directoryPath};
+ghost use Rattle.format.specs.Call.{checkBuckets, foundAnswer, answerWords, lookupWords, directoryPart, directoryPath};
 ghost use Rattle.format.specs.Call as calls;
 ghost use Rattle.format.specs.Demand.{CheckDemand, LookupKept};
-ghost use Rattle.tables.specs.Tables.{Right};
+ghost use Rattle.tables.specs.Tables.{TablesOf};
 use bigendian::u32_at;
 use format::CheckAnswer;
 use format::DirectoryAnswer;
 use format::DirectoryPart;
 use format::Fault;
 use format::Found;
-use format::Link;
 use format::LookupAnswer;
+use format::Next;
 use tables::Tables;
 
 // The check's answer where the rule `number` is broken at `place`, after `opened` records.
@@ -36,34 +36,34 @@ fn refused(number: u32, place: usize, opened: usize) -> CheckAnswer
 
 // The check of all chains, in a cache that keeps the rules 1 to 6 and 16.
 fn check_buckets(cache: &[u8], t: Tables) -> CheckAnswer
-    requires { ⌜ Right (now cache) t ⌝ }
+    requires { ⌜ TablesOf (now cache) t ⌝ }
     ensures { λ r. ⌜ r ≡ checkBuckets (buckets (now (cache .entry))) (now (cache .entry)) 0 0 ⌝ }
 {
     let n = t.buckets;
     let most = cache.len() - 11;
-    let mut k = 0;
-    let mut icons = 0;
-    while k < n {
-        let chain = chains::chain(cache, t, k, most - icons);
-        icons += chain.records;
+    let mut bucket = 0;
+    let mut opened = 0;
+    while bucket < n {
+        let chain = chains::walk(cache, t, bucket, most - opened);
+        opened += chain.opened;
         let after = chain.after;
         match after {
-            Link::Broken(number, place) => {
-                return refused(number, place, icons + chains::itself(number));
+            Next::Broken(number, place) => {
+                return refused(number, place, opened);
             }
-            Link::Record(_) => {
-                return refused(12, tables::bucket_field(t, k), icons + 1);
+            Next::Record(_) => {
+                return refused(12, tables::bucket_field(t, bucket), opened);
             }
-            Link::End => {}
+            Next::End => {}
         }
-        k += 1;
+        bucket += 1;
     }
     CheckAnswer {
         number: 0,
         place: 0,
-        directories: t.directories,
-        icons,
-        opened: icons,
+        directories: t.directories as usize,
+        icons: opened,
+        opened,
     }
 }
 
@@ -99,7 +99,7 @@ fn unfound(number: u32, place: usize) -> Found
 pub fn find(cache: &[u8], name: &[u8]) -> Found
     ensures { λ r. ⌜ r ≡ calls.find (now (cache .entry)) (now (name .entry)) ⌝ }
 {
-    let query = text::asked(name);
+    let query = strings::asked(name);
     if !query.allowed {
         return unfound(13, 0);
     }
@@ -108,19 +108,19 @@ pub fn find(cache: &[u8], name: &[u8]) -> Found
         return unfound(header.number, header.place);
     }
     let t = tables::read(cache);
-    let bucket = query.hash as usize % t.buckets;
+    let bucket = query.hash % t.buckets;
     chains::search(cache, t, bucket, name)
 }
 
-// The answer with the images of the record at `met`, after `opened` records. They go into `words`
-// if there is room for all.
-fn with_images(cache: &[u8], met: usize, opened: usize, words: &mut [u32]) -> LookupAnswer
-    requires { ⌜ met + 12 ≤ length (now cache) ⌝ }
-    requires { ⌜ imagesAt (now cache) met + 4 + 8 * images (now cache) met ≤ length (now cache) ⌝ }
-    ensures answer { λ r. ⌜ r ≡ metAnswer (now (cache .entry)) (length (now (words .entry))) met opened ⌝ }
+// The answer with the images of `record`, after `opened` records. They go into `words` if there is
+// room for all.
+fn with_images(cache: &[u8], record: usize, opened: usize, words: &mut [u32]) -> LookupAnswer
+    requires { ⌜ «record» + 12 ≤ length (now cache) ⌝ }
+    requires { ⌜ imagesAt (now cache) «record» + 4 + 8 * images (now cache) «record» ≤ length (now cache) ⌝ }
+    ensures answer { λ r. ⌜ r ≡ foundAnswer (now (cache .entry)) (length (now (words .entry))) «record» opened ⌝ }
     ensures lent { λ r. ⌜ now (words .exit) ≡ answerWords (now (cache .entry)) (now (words .entry)) r ⌝ }
 {
-    let at = u32_at(cache, met + 8) as usize;
+    let at = u32_at(cache, record + 8) as usize;
     let images = u32_at(cache, at) as usize;
     if words.len() < 2 * images {
         return LookupAnswer {
@@ -133,7 +133,7 @@ fn with_images(cache: &[u8], met: usize, opened: usize, words: &mut [u32]) -> Lo
     records::write_images(cache, at + 4, images, words);
     LookupAnswer {
         number: 0,
-        place: met,
+        place: record,
         images,
         opened,
     }
@@ -180,14 +180,14 @@ pub fn directory_part(cache: &[u8], index: usize) -> DirectoryPart
         return no_part(header);
     }
     let t = tables::read(cache);
-    if t.directories <= index {
+    if t.directories as usize <= index {
         let none = Fault {
             number: 15,
             place: 0,
         };
         return no_part(none);
     }
-    let path = tables::path(cache, t, index);
+    let path = tables::path(cache, t, index as u32);
     let fault = path.fault;
     DirectoryPart {
         number: fault.number,

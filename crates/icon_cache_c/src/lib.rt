@@ -77,9 +77,9 @@ pub extern "C" fn icon_cache_list(
     bucket: &mut usize,
     count: &mut usize,
     place: &mut usize,
-    offset: &mut usize,
+    record: &mut usize,
 ) -> u32
-    ensures { λ r. ⌜ stepIs r (now (place .exit)) (now (offset .exit)) (position (now (bucket .exit)) (now (count .exit))) ≡ step (now (cache .entry)) (position (now (bucket .entry)) (now (count .entry))) ⌝ }
+    ensures { λ r. ⌜ stepIs r (now (place .exit)) (now («record» .exit)) (position (now (bucket .exit)) (now (count .exit))) ≡ step (now (cache .entry)) (position (now (bucket .entry)) (now (count .entry))) ⌝ }
 {
     let position = Position {
         bucket: *bucket,
@@ -90,7 +90,7 @@ pub extern "C" fn icon_cache_list(
     *bucket = next.bucket;
     *count = next.count;
     *place = answer.place;
-    *offset = answer.offset;
+    *record = answer.record;
     answer.number
 }
 

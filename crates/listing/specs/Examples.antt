@@ -6,7 +6,7 @@ use lib.ListN.{take}
 use lib.Dec.{T, eqb}
 use Rattle.format.specs.Number.{be}
 use Rattle.format.specs.Fault.{_orElse_}
-use Rattle.format.specs.Text.{string, text, isWhole, sameBytes, signed, hashFrom, hashNumbers, hash}
+use Rattle.format.specs.String.{string, extent, isWhole, sameBytes, signed, hashFrom, hashNumbers, hash}
 use Rattle.format.specs.Header.{headerFault}
 use Rattle.format.specs.Record.{imagesFault, nameFault, listFault, recordFault}
 use Rattle.format.specs.Chain.{linkFault, follow, chain}
@@ -22,7 +22,7 @@ samePosition q r = eqb (q .bucket) (r .bucket) && eqb (q .count) (r .count)
 unfoldable pub answers : List ℕ → Position → Step → Bool
 answers s q b =
     let a = step s q in
-    eqb (a .number) (b .number) && eqb (a .place) (b .place) && eqb (a .offset) (b .offset) && samePosition (a .next) (b .next)
+    eqb (a .number) (b .number) && eqb (a .place) (b .place) && eqb (a .«record») (b .«record») && samePosition (a .next) (b .next)
 
 unfoldable pub all : List Bool → Bool
 all [] = true
@@ -53,5 +53,5 @@ examples =
     []
 
 examples-hold : T (all examples)
-unfolding all answers samePosition examples looped patched farm step onward positionFault linkFault follow chain recordFault nameFault listFault imagesFault headerFault _orElse_ text string isWhole sameBytes signed hashFrom hashNumbers hash be
+unfolding all answers samePosition examples looped patched farm step onward positionFault linkFault follow chain recordFault nameFault listFault imagesFault headerFault _orElse_ extent string isWhole sameBytes signed hashFrom hashNumbers hash be
 examples-hold = tt

@@ -6,11 +6,11 @@ use mathlib.Core.Logic.{_↔_}
 use lib.ListN.{length, getD}
 use Rattle.format.specs.Fault.{fault}
 use Rattle.format.specs.Header.{headerFault, buckets}
-use Rattle.format.specs.Chain.{chainOf, mostRecords, allRecords, itself}
+use Rattle.format.specs.Chain.{chainOf, mostRecords, allRecords, openedOn}
 use Rattle.format.specs.Call.{check}
 use Rattle.format.specs.Words.{link, KeepsBelow, Holds, Breaks, OnChain, Turns, Accepted}
 use Rattle.listing.specs.Listing.{position, start, handsBack, stays, positionFault, step}
-use Rattle.format.specs.declared.Link.the-variants.{End, Broken, Record}
+use Rattle.format.specs.declared.Next.the-variants.{End, Broken, Record}
 use Rattle.listing.specs.declared.Position.{Position}
 use Rattle.listing.specs.declared.Step.{Step}
 
@@ -23,7 +23,7 @@ pub data GoesOn (s : List ℕ) : Position → Position → Type 0 where
 abbrev pub HasRecord : List ℕ → Position → Type 0
 HasRecord s r = (r .bucket < buckets s) × KeepsBelow s (r .bucket) (suc (r .count))
 
--- The answer from a position that is right, by where the step goes on to.
+-- The answer from a position that is valid, by where the step goes on to.
 pub record RecordAnswers (s : List ℕ) (q : Position) : Type 0 where
   pub gives : {r : Position} → GoesOn s q r → HasRecord s r
       → step s q ≡ handsBack (link s (r .bucket) (r .count)) (position (r .bucket) (suc (r .count)))
@@ -78,15 +78,14 @@ abbrev pub AtTheLargestCount : List ℕ → ℕ → Type 0
 AtTheLargestCount s k = let a = step s (largest s k) in (a .number ≡ 0) × (a .next .bucket ≡ k)
 
 -- how many records are opened on the chains from which `onward` has its answer, and so by a step
--- from a position that is right
+-- from a position that is valid
 unfoldable pub onwardOpens : ℕ → List ℕ → ℕ → ℕ → ℕ
 onwardOpens zero s k c = 0
 onwardOpens (suc n) s k c =
-    let passed = length (chainOf s k c .records) in
-    elim (chainOf s k c .after) [
-      | End ↦ passed + onwardOpens n s (suc k) 0
-      | Broken x p ↦ passed + itself x
-      | Record r ↦ passed + 1
+    openedOn (chainOf s k c) + elim (chainOf s k c .after) [
+      | End ↦ onwardOpens n s (suc k) 0
+      | Broken x p ↦ 0
+      | Record r ↦ 0
     ]
 
 abbrev pub stepOpens : List ℕ → Position → ℕ

@@ -4,10 +4,10 @@ ghost use mathlib.Core.Path.{_≡_};
 ghost use Prim.Native.Nat.{_-_, _≤_, _<_};
 ghost use lib.ListN.{length};
 ghost use Rattle.format.specs.Header.{buckets};
-ghost use Rattle.tables.specs.Tables.{Right};
+ghost use Rattle.tables.specs.Tables.{TablesOf};
 ghost use Rattle.listing.specs.Listing.{stays, step};
 ghost use Rattle.listing.specs.Listing as definition;
-use format::Link;
+use format::Next;
 use tables::Tables;
 
 // A bucket, and how many records of its chain are passed. A caller may make one up.
@@ -16,12 +16,12 @@ pub struct Position {
     pub count: usize,
 }
 
-// The answer from a position: with number 0 the offset of the record and the position after it;
-// with any other number 0 and the position as it came.
+// The answer from a position: with number 0 the next record and the position after it; with any
+// other number 0 and the position as it came.
 pub struct Step {
     pub number: u32,
     pub place: usize,
-    pub offset: usize,
+    pub record: usize,
     pub next: Position,
 }
 
@@ -43,41 +43,41 @@ impl Position {
         Step {
             number,
             place,
-            offset: 0,
+            record: 0,
             next: self,
         }
     }
 
-    // The answer from a position that is right: the chains are tried from its own on, and only on
+    // The answer from a position that is valid: the chains are tried from its own on, and only on
     // that are records passed.
     fn onward(self, cache: &[u8], t: Tables) -> Step
-        requires { ⌜ Right (now cache) t ⌝ }
+        requires { ⌜ TablesOf (now cache) t ⌝ }
         requires { ⌜ (self .bucket < buckets (now cache)) × (self .count ≤ length (now cache) - 11) ⌝ }
         ensures { λ r. ⌜ r ≡ definition.onward (buckets (now (cache .entry)) - self .bucket) (now (cache .entry)) self (self .bucket) (self .count) ⌝ }
     {
         let n = t.buckets;
-        let mut bucket = self.bucket;
+        let mut bucket = self.bucket as u32;
         let mut passed = self.count;
         while bucket < n {
-            let chain = chains::chain(cache, t, bucket, passed);
+            let chain = chains::walk(cache, t, bucket, passed);
             let after = chain.after;
             match after {
-                Link::Record(offset) => {
+                Next::Record(record) => {
                     let next = Position {
-                        bucket,
+                        bucket: bucket as usize,
                         count: passed + 1,
                     };
                     return Step {
                         number: 0,
                         place: 0,
-                        offset,
+                        record,
                         next,
                     };
                 }
-                Link::Broken(number, place) => {
+                Next::Broken(number, place) => {
                     return self.stay(number, place);
                 }
-                Link::End => {}
+                Next::End => {}
             }
             bucket += 1;
             passed = 0;
@@ -94,7 +94,7 @@ impl Position {
             return self.stay(header.number, header.place);
         }
         let t = tables::read(cache);
-        if t.buckets <= self.bucket {
+        if t.buckets as usize <= self.bucket {
             return self.stay(26, 0);
         }
         if cache.len() - 11 < self.count {

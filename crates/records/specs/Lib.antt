@@ -1,1 +1,1 @@
-pub mod RightWords
+pub mod ValidWords

@@ -7,39 +7,38 @@ ghost use lib.ListN.{length, drop};
 ghost use Rattle.format.specs.Number.{be};
 ghost use Rattle.format.specs.Fault.{noFault};
 ghost use Rattle.format.specs.Header.{directories};
-ghost use Rattle.format.specs.Record.{namePart, bearsName, listRight, imageRight, imagesFault, nameFault, listFault, recordFault, firstWord, imageWords};
-ghost use Rattle.tables.specs.Tables.{Right};
-ghost use Rattle.records.specs.RightWords.{rightWords};
+ghost use Rattle.format.specs.Record.{namePart, bearsName, validImageList, validImage, imagesFault, nameFault, listFault, recordFault, firstWord, imageWords};
+ghost use Rattle.tables.specs.Tables.{TablesOf};
+ghost use Rattle.records.specs.ValidWords.{validWords};
 use bigendian::u16_at;
 use bigendian::u32_at;
+use format::Extent;
 use format::Fault;
-use format::Text;
 use std::num::wrapping_sub_u32;
 use tables::Tables;
 use tables::list_inside;
 
-// The first words of images whose index is right: `span` of them from `lowest` on. The index is the
-// high half of the word, so those words follow one another and one test settles the index of an
-// image.
-struct RightWords {
+// The first words of images with a valid index: `span` of them from `lowest` on. The index is the
+// high half of the word, so those words follow one another and one test settles it.
+struct ValidWords {
     lowest: u32,
     span: u32,
 }
 
-// The right first words where there are `n` directories.
-fn right_words(n: usize) -> RightWords
+// The same where there are `n` directories.
+fn valid_words(n: u32) -> ValidWords
     requires { ⌜ n < 65536 ⌝ }
-    ensures { λ r. ⌜ r ≡ rightWords n ⌝ }
+    ensures { λ r. ⌜ r ≡ validWords n ⌝ }
 {
     if n == 0 {
-        RightWords {
+        ValidWords {
             lowest: 0xFFFF_0000,
             span: 0x1_0000,
         }
     } else {
-        RightWords {
+        ValidWords {
             lowest: 0,
-            span: n as u32 * 0x1_0000,
+            span: n * 0x1_0000,
         }
     }
 }
@@ -55,14 +54,14 @@ fn first_word(cache: &[u8], at: usize) -> u32
     index * 0x1_0000 + flags
 }
 
-// Rule 11 on the image at `at`, where `right` are the right first words.
-fn image_right(cache: &[u8], right: RightWords, at: usize) -> bool
-    requires { ⌜ (directories (now cache) < 65536) × (right ≡ rightWords (directories (now cache))) ⌝ }
+// Rule 11 on the image at `at`, where `valid` are the valid first words.
+fn valid_image(cache: &[u8], valid: ValidWords, at: usize) -> bool
+    requires { ⌜ (directories (now cache) < 65536) × (valid ≡ validWords (directories (now cache))) ⌝ }
     requires { ⌜ at + 8 ≤ length (now cache) ⌝ }
-    ensures { λ r. ⌜ r ≡ imageRight (now (cache .entry)) at ⌝ }
+    ensures { λ r. ⌜ r ≡ validImage (now (cache .entry)) at ⌝ }
 {
     let word = first_word(cache, at);
-    if wrapping_sub_u32(word, right.lowest) < right.span {
+    if wrapping_sub_u32(word, valid.lowest) < valid.span {
         word % 0x1_0000 <= 15
     } else {
         false
@@ -70,15 +69,15 @@ fn image_right(cache: &[u8], right: RightWords, at: usize) -> bool
 }
 
 // The first of `m` images from `at` on that breaks rule 11, where there are `n` directories.
-fn images(cache: &[u8], n: usize, m: usize, at: usize) -> Fault
+fn images(cache: &[u8], n: u32, m: u32, at: usize) -> Fault
     requires { ⌜ (n < 65536) × (n ≡ directories (now cache)) × (at + 8 * m ≤ length (now cache)) ⌝ }
     ensures { λ r. ⌜ r ≡ imagesFault m (now (cache .entry)) at ⌝ }
 {
-    let right = right_words(n);
+    let valid = valid_words(n);
     let mut left = m;
     let mut here = at;
     while 0 < left {
-        if !image_right(cache, right, here) {
+        if !valid_image(cache, valid, here) {
             return Fault {
                 number: 11,
                 place: here,
@@ -94,9 +93,9 @@ fn images(cache: &[u8], n: usize, m: usize, at: usize) -> Fault
 }
 
 // Whether the image list at `at` lies inside and is not too long.
-fn list_right(cache: &[u8], at: usize) -> bool
+fn valid_image_list(cache: &[u8], at: usize) -> bool
     requires { ⌜ at < 2 ^ 32 ⌝ }
-    ensures { λ r. ⌜ r ≡ listRight (now (cache .entry)) at ⌝ }
+    ensures { λ r. ⌜ r ≡ validImageList (now (cache .entry)) at ⌝ }
 {
     if list_inside(cache, at, 8) {
         u32_at(cache, at) <= 1024
@@ -105,22 +104,22 @@ fn list_right(cache: &[u8], at: usize) -> bool
     }
 }
 
-// The part of the cache from the name of the record at `offset` on.
-fn name_part(cache: &[u8], offset: usize) -> &[u8]
-    requires { ⌜ offset + 12 ≤ length (now cache) ⌝ }
-    ensures { λ r. ⌜ now r ≡ namePart (now (cache .entry)) offset ⌝ }
+// The part of the cache from the name of `record` on.
+fn name_part(cache: &[u8], record: usize) -> &[u8]
+    requires { ⌜ «record» + 12 ≤ length (now cache) ⌝ }
+    ensures { λ r. ⌜ now r ≡ namePart (now (cache .entry)) «record» ⌝ }
 {
-    let at = u32_at(cache, offset + 4) as usize;
-    text::from(cache, at)
+    let at = u32_at(cache, record + 4) as usize;
+    strings::from(cache, at)
 }
 
-// Rules 8 and 9 on the name of the record at `offset`, on the chain of `bucket`. A name that is
+// Rules 8 and 9 on the name of `record`, on the chain of `bucket`. A name that is
 // `known` to keep them isn't read.
-fn judge_name(cache: &[u8], t: Tables, bucket: usize, offset: usize, known: bool) -> Fault
-    requires { ⌜ Right (now cache) t ⌝ }
-    requires { ⌜ offset + 12 ≤ length (now cache) ⌝ }
-    requires { ⌜ (known ≡ true → nameFault (now cache) bucket offset ≡ noFault) ⌝ }
-    ensures { λ r. ⌜ r ≡ nameFault (now (cache .entry)) bucket offset ⌝ }
+fn judge_name(cache: &[u8], t: Tables, bucket: u32, record: usize, known: bool) -> Fault
+    requires { ⌜ TablesOf (now cache) t ⌝ }
+    requires { ⌜ «record» + 12 ≤ length (now cache) ⌝ }
+    requires { ⌜ (known ≡ true → nameFault (now cache) bucket «record» ≡ noFault) ⌝ }
+    ensures { λ r. ⌜ r ≡ nameFault (now (cache .entry)) bucket «record» ⌝ }
 {
     if known {
         return Fault {
@@ -128,18 +127,18 @@ fn judge_name(cache: &[u8], t: Tables, bucket: usize, offset: usize, known: bool
             place: 0,
         };
     }
-    let name = text::read_name(name_part(cache, offset));
-    let text = name.text;
-    let Text::Whole(_) = text else {
+    let name = strings::read_name(name_part(cache, record));
+    let extent = name.extent;
+    let Extent::Whole(_) = extent else {
         return Fault {
             number: 8,
-            place: offset + 4,
+            place: record + 4,
         };
     };
-    if name.hash as usize % t.buckets != bucket {
+    if name.hash % t.buckets != bucket {
         return Fault {
             number: 9,
-            place: offset + 4,
+            place: record + 4,
         };
     }
     Fault {
@@ -148,46 +147,46 @@ fn judge_name(cache: &[u8], t: Tables, bucket: usize, offset: usize, known: bool
     }
 }
 
-// Rules 10 and 11 on the images of the record at `offset`.
-fn judge_images(cache: &[u8], t: Tables, offset: usize) -> Fault
-    requires { ⌜ Right (now cache) t ⌝ }
-    requires { ⌜ offset + 12 ≤ length (now cache) ⌝ }
-    ensures { λ r. ⌜ r ≡ listFault (now (cache .entry)) offset ⌝ }
+// Rules 10 and 11 on the images of `record`.
+fn judge_images(cache: &[u8], t: Tables, record: usize) -> Fault
+    requires { ⌜ TablesOf (now cache) t ⌝ }
+    requires { ⌜ «record» + 12 ≤ length (now cache) ⌝ }
+    ensures { λ r. ⌜ r ≡ listFault (now (cache .entry)) «record» ⌝ }
 {
-    let at = u32_at(cache, offset + 8) as usize;
-    if !list_right(cache, at) {
+    let at = u32_at(cache, record + 8) as usize;
+    if !valid_image_list(cache, at) {
         return Fault {
             number: 10,
-            place: offset + 8,
+            place: record + 8,
         };
     }
-    let m = u32_at(cache, at) as usize;
+    let m = u32_at(cache, at);
     let n = t.directories;
     images(cache, n, m, at + 4)
 }
 
-// The first of the rules 8 to 11 that the record at `offset` breaks, on the chain of `bucket`. A
+// The first of the rules 8 to 11 that `record` breaks, on the chain of `bucket`. A
 // name that is `known` to keep 8 and 9 isn't read.
-pub fn judge(cache: &[u8], t: Tables, bucket: usize, offset: usize, known: bool) -> Fault
-    requires { ⌜ Right (now cache) t ⌝ }
-    requires { ⌜ offset + 12 ≤ length (now cache) ⌝ }
-    requires { ⌜ (known ≡ true → nameFault (now cache) bucket offset ≡ noFault) ⌝ }
-    ensures { λ r. ⌜ r ≡ recordFault (now (cache .entry)) bucket offset ⌝ }
+pub fn judge(cache: &[u8], t: Tables, bucket: u32, record: usize, known: bool) -> Fault
+    requires { ⌜ TablesOf (now cache) t ⌝ }
+    requires { ⌜ «record» + 12 ≤ length (now cache) ⌝ }
+    requires { ⌜ (known ≡ true → nameFault (now cache) bucket «record» ≡ noFault) ⌝ }
+    ensures { λ r. ⌜ r ≡ recordFault (now (cache .entry)) bucket «record» ⌝ }
 {
-    let fault = judge_name(cache, t, bucket, offset, known);
+    let fault = judge_name(cache, t, bucket, record, known);
     if fault.number != 0 {
         return fault;
     }
-    judge_images(cache, t, offset)
+    judge_images(cache, t, record)
 }
 
-// Whether the record at `offset` has a whole name and it is `name`.
-pub fn bears(cache: &[u8], offset: usize, name: &[u8]) -> bool
-    requires { ⌜ (offset + 12 ≤ length (now cache)) × (length (now name) ≤ 255) ⌝ }
-    ensures { λ r. ⌜ r ≡ bearsName (now (cache .entry)) offset (now (name .entry)) ⌝ }
+// Whether `record` has a whole name and it is `name`.
+pub fn bears(cache: &[u8], record: usize, name: &[u8]) -> bool
+    requires { ⌜ («record» + 12 ≤ length (now cache)) × (length (now name) ≤ 255) ⌝ }
+    ensures { λ r. ⌜ r ≡ bearsName (now (cache .entry)) «record» (now (name .entry)) ⌝ }
 {
-    let part = name_part(cache, offset);
-    text::same(part, name)
+    let part = name_part(cache, record);
+    strings::same(part, name)
 }
 
 // Puts the two words of each of `m` images from `at` on into `words`, from the last image to the

@@ -6,9 +6,10 @@ use mathlib.Core.List.{List}
 use lib.ListN.{length}
 use Rattle.format.specs.Choice.{if_then_else_}
 use Rattle.format.specs.Layout.{fieldSize, entryField}
-use Rattle.format.specs.Number.{be, listInside}
+use Rattle.format.specs.Number.{be}
+use Rattle.format.specs.Part.{listInside}
 use Rattle.format.specs.Fault.{fault, ifKept}
-use Rattle.format.specs.Header.{headerFault, hashAt, buckets, directoriesAt, directories, pathField, pathOf, pathFault}
+use Rattle.format.specs.Header.{headerFault, bucketsAt, buckets, directoriesAt, directories, pathField, pathOf, pathFault}
 use Rattle.tables.specs.declared.Tables.{Tables}
 use Rattle.tables.specs.declared.JudgedPath.{JudgedPath}
 
@@ -17,17 +18,17 @@ use Rattle.tables.specs.declared.JudgedPath.{JudgedPath}
 abbrev pub listCount : List ℕ → ℕ → ℕ → ℕ
 listCount s f other = if listInside s (be 4 s f) fieldSize then be 4 s (be 4 s f) else other
 
-abbrev pub tablesOf : List ℕ → Tables
-tablesOf s = record { «hash_at» = hashAt s; buckets = buckets s; «directories_at» = directoriesAt s; directories = directories s }
+abbrev pub tablesIn : List ℕ → Tables
+tablesIn s = record { «buckets_at» = bucketsAt s; buckets = buckets s; «directories_at» = directoriesAt s; directories = directories s }
 
 -- the header breaks no rule, and t is what it says of the tables
-pub record Right (s : List ℕ) (t : Tables) : Type 0 where
+pub record TablesOf (s : List ℕ) (t : Tables) : Type 0 where
   pub header : headerFault s .number ≡ 0
-  pub tables : t ≡ tablesOf s
+  pub tables : t ≡ tablesIn s
 
 -- the field of bucket k, and that of the path of directory i
 abbrev pub bucketFieldOf : Tables → ℕ → ℕ
-bucketFieldOf t k = entryField (t .«hash_at») k
+bucketFieldOf t k = entryField (t .«buckets_at») k
 
 abbrev pub pathFieldOf : Tables → ℕ → ℕ
 pathFieldOf t i = entryField (t .«directories_at») i

@@ -2,20 +2,20 @@
 ghost use mathlib.Core.Path.{_≡_};
 ghost use Prim.Native.Nat.{_+_, _^_, _≤_, _<_};
 ghost use lib.ListN.{length};
-ghost use Rattle.format.specs.Number.{listInside};
-ghost use Rattle.format.specs.Header.{versionRight, headerFault, directories, pathsFault};
-ghost use Rattle.tables.specs.Tables.{listCount, tablesOf, Right, bucketFieldOf, pathFieldOf, pathBroken, pathJudged};
+ghost use Rattle.format.specs.Part.{listInside};
+ghost use Rattle.format.specs.Header.{validVersion, headerFault, directories, pathsFault};
+ghost use Rattle.tables.specs.Tables.{listCount, tablesIn, TablesOf, bucketFieldOf, pathFieldOf, pathBroken, pathJudged};
 use bigendian::u16_at;
 use bigendian::u32_at;
+use format::Extent;
 use format::Fault;
-use format::Text;
 
 // Where the hash and the directory list of a cache stand, and how many entries they have.
 pub struct Tables {
-    pub hash_at: usize,
-    pub buckets: usize,
-    pub directories_at: usize,
-    pub directories: usize,
+    pub buckets_at: u32,
+    pub buckets: u32,
+    pub directories_at: u32,
+    pub directories: u32,
 }
 
 // What is judged of a path, and where it stands if it keeps the rules; else its start and its
@@ -39,9 +39,9 @@ pub fn list_inside(cache: &[u8], at: usize, size: usize) -> bool
 }
 
 // Whether the version is 1.0.
-fn version_right(cache: &[u8]) -> bool
+fn valid_version(cache: &[u8]) -> bool
     requires { ⌜ 12 ≤ length (now cache) ⌝ }
-    ensures { λ r. ⌜ r ≡ versionRight (now (cache .entry)) ⌝ }
+    ensures { λ r. ⌜ r ≡ validVersion (now (cache .entry)) ⌝ }
 {
     if u16_at(cache, 0) == 1 {
         u16_at(cache, 2) == 0
@@ -80,7 +80,7 @@ pub fn header(cache: &[u8]) -> Fault
             place: 0,
         };
     }
-    if !version_right(cache) {
+    if !valid_version(cache) {
         return Fault {
             number: 3,
             place: 0,
@@ -107,14 +107,14 @@ pub fn header(cache: &[u8]) -> Fault
 // The tables of a cache whose header breaks no rule.
 pub fn read(cache: &[u8]) -> Tables
     requires { ⌜ headerFault (now cache) .number ≡ 0 ⌝ }
-    ensures { λ r. ⌜ Right (now (cache .entry)) r ⌝ }
+    ensures { λ r. ⌜ TablesOf (now (cache .entry)) r ⌝ }
 {
-    let hash_at = u32_at(cache, 4) as usize;
-    let buckets = u32_at(cache, hash_at) as usize;
-    let directories_at = u32_at(cache, 8) as usize;
-    let directories = u32_at(cache, directories_at) as usize;
+    let buckets_at = u32_at(cache, 4);
+    let buckets = u32_at(cache, buckets_at as usize);
+    let directories_at = u32_at(cache, 8);
+    let directories = u32_at(cache, directories_at as usize);
     Tables {
-        hash_at,
+        buckets_at,
         buckets,
         directories_at,
         directories,
@@ -122,19 +122,17 @@ pub fn read(cache: &[u8]) -> Tables
 }
 
 // The field of bucket `k`.
-pub fn bucket_field(t: Tables, k: usize) -> usize
-    requires { ⌜ bucketFieldOf t k < 2 ^ 64 ⌝ }
+pub fn bucket_field(t: Tables, k: u32) -> usize
     ensures { λ r. ⌜ r ≡ bucketFieldOf t k ⌝ }
 {
-    t.hash_at + 4 + 4 * k
+    t.buckets_at as usize + 4 + 4 * k as usize
 }
 
 // The field of the path of directory `i`.
-pub fn path_field(t: Tables, i: usize) -> usize
-    requires { ⌜ pathFieldOf t i < 2 ^ 64 ⌝ }
+pub fn path_field(t: Tables, i: u32) -> usize
     ensures { λ r. ⌜ r ≡ pathFieldOf t i ⌝ }
 {
-    t.directories_at + 4 + 4 * i
+    t.directories_at as usize + 4 + 4 * i as usize
 }
 
 // A path that breaks the rule `number`, named in `field`.
@@ -154,23 +152,23 @@ fn bad_path(number: u32, field: usize) -> JudgedPath
 
 // Rules 6 and 16 on the path of directory `i`, in a cache whose header breaks no rule, and where
 // the path stands if it keeps both.
-pub fn path(cache: &[u8], t: Tables, i: usize) -> JudgedPath
-    requires { ⌜ Right (now cache) t ⌝ }
+pub fn path(cache: &[u8], t: Tables, i: u32) -> JudgedPath
+    requires { ⌜ TablesOf (now cache) t ⌝ }
     requires { ⌜ i < directories (now cache) ⌝ }
     ensures { λ r. ⌜ r ≡ pathJudged (now (cache .entry)) i ⌝ }
 {
     let field = path_field(t, i);
     let start = u32_at(cache, field) as usize;
-    let part = text::from(cache, start);
-    let read = text::read_path(part);
-    let segments_right = read.segments_right;
-    let text = read.text;
-    match text {
-        Text::Whole(length) => {
+    let part = strings::from(cache, start);
+    let read = strings::read_path(part);
+    let valid_segments = read.valid_segments;
+    let extent = read.extent;
+    match extent {
+        Extent::Whole(length) => {
             if part[0] == b'/' {
                 return bad_path(6, field);
             }
-            if !segments_right {
+            if !valid_segments {
                 return bad_path(16, field);
             }
             let fault = Fault {
@@ -190,7 +188,7 @@ pub fn path(cache: &[u8], t: Tables, i: usize) -> JudgedPath
 // The rule that the first wrong path breaks, 6 or 16, and its place, in a cache whose header breaks
 // no rule.
 pub fn paths(cache: &[u8], t: Tables) -> Fault
-    requires { ⌜ Right (now cache) t ⌝ }
+    requires { ⌜ TablesOf (now cache) t ⌝ }
     ensures { λ r. ⌜ r ≡ pathsFault (directories (now (cache .entry))) (now (cache .entry)) 0 ⌝ }
 {
     let n = t.directories;

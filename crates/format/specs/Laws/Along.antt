@@ -5,10 +5,10 @@ use mathlib.Core.List.{List, [], _∷_, _++_, append-assoc, append-nil}
 use native.Mathlib.Omega.{arith}
 use lib.ListN.{length, length-append}
 use Rattle.format.specs.Number.{be}
-use Rattle.format.specs.Chain.{follow, Chain, chained, chain, chainOf}
+use Rattle.format.specs.Chain.{follow, Chain, chained, chain, chainOf, opens, openedOn}
 use Rattle.format.specs.Words.{link, linkField, KeepsAt, KeepsBelow, Holds, Breaks}
-use Rattle.format.specs.declared.Link.{Link}
-use Rattle.format.specs.declared.Link.the-variants.{End, Broken, Record}
+use Rattle.format.specs.declared.Next.{Next}
+use Rattle.format.specs.declared.Next.the-variants.{End, Broken, Record}
 use Rattle.format.specs.Laws.Follow.{to-end, to-broken, to-record, follow-leads, chain-ends, chain-breaks, chain-full, chain-next}
 
 -- the first n records of bucket k's chain
@@ -31,7 +31,7 @@ unfolding link linkField
 reads-link s k zero = refl
 reads-link s k (suc n) = refl
 
-pub after-is : {c : Chain} {rs : List ℕ} {l : Link} → c ≡ chained rs l → c .after ≡ l
+pub after-is : {c : Chain} {rs : List ℕ} {l : Next} → c ≡ chained rs l → c .after ≡ l
 after-is e = ap (λ (c : Chain). c .after) e
 
 module _ (s : List ℕ) (k : ℕ) where
@@ -45,9 +45,9 @@ module _ (s : List ℕ) (k : ℕ) where
   step-keeps : (n : ℕ) → KeepsAt s k n → follow s k (linkField s k n) ≡ Record (link s k n)
   step-keeps n h = rw (reads-link s k n) at (follow-leads s k (linkField s k n) (to-record (rw reads-link (h .0)) (rw reads-link (h .1))))
 
-  -- how many records a chain has that is such, and what comes after them
-  pub counted : (n : ℕ) {c : Chain} {l : Link} → c ≡ chained (links s k n) l → length (c .records) ≡ n
-  counted n e = ap (λ (c : Chain). length (c .records)) e ∙ links-length s k n
+  -- how many records are opened on such a chain
+  pub counted : (n : ℕ) {c : Chain} {l : Next} → c ≡ chained (links s k n) l → openedOn c ≡ n + opens l
+  counted n {l = l} e = ap openedOn e ∙ ap (λ m. m + opens l) (links-length s k n)
 
   -- past n records that keep the rules
   pub chain-along : (n m : ℕ) {N : ℕ} → N ≡ n + m → KeepsBelow s k n → chainOf s k N ≡ before (links s k n) (chain m s k (linkField s k n))

@@ -6,38 +6,38 @@ use native.Mathlib.Decide.{decLt}
 use native.Mathlib.Omega.{arith}
 use lib.ListN.{length}
 use Rattle.format.specs.Header.{bucketField, buckets, directories, tablesFault}
-use Rattle.format.specs.Chain.{chainOf, mostRecords, itself}
+use Rattle.format.specs.Chain.{chainOf, mostRecords, itself, openedOn}
 use Rattle.format.specs.Answer.{accepted, refused}
 use Rattle.format.specs.Call.{check, checkBuckets}
-use Rattle.format.specs.Words.{KeepsAt, KeepsBelow, Holds, Breaks, Sound, HeldBefore, Lengths, sum}
+use Rattle.format.specs.Words.{KeepsAt, KeepsBelow, Holds, Breaks, TablesKept, HeldBefore, Lengths, sum}
 use Rattle.format.specs.declared.Fault.{Fault}
-use Rattle.format.specs.declared.Link.the-variants.{End, Broken, Record}
+use Rattle.format.specs.declared.Next.the-variants.{End, Broken, Record}
 use Rattle.format.specs.Laws.Faults.{kept-takes, broken-takes}
 use Rattle.format.specs.Laws.Along.{counted, after-is, holds-chain, breaks-chain, keeps-chain}
 use Rattle.format.specs.Laws.Links.{Repeat, once, never-breaks}
 use Rattle.format.specs.Laws.Apart.{Apart, visits, visits-length, apart-none, apart-length, apart-chain, apart-few}
 
--- one bucket of the check, by what comes after the m records of its chain
-module _ (s : List ℕ) (n k o : ℕ) {m : ℕ} (count : length (chainOf s k (mostRecords s - o) .records) ≡ m) where
-  pub bucket-ends : chainOf s k (mostRecords s - o) .after ≡ End → checkBuckets (suc n) s k o ≡ checkBuckets n s (suc k) (o + m)
+-- one bucket of the check, by what comes after the records of its chain; `opened` are opened then
+module _ (s : List ℕ) (n k o : ℕ) {opened : ℕ} (count : o + openedOn (chainOf s k (mostRecords s - o)) ≡ opened) where
+  pub bucket-ends : chainOf s k (mostRecords s - o) .after ≡ End → checkBuckets (suc n) s k o ≡ checkBuckets n s (suc k) opened
   unfolding checkBuckets
-  bucket-ends e = rw (checkBuckets, e) (rw count)
+  bucket-ends e = rw (checkBuckets, e) (ap (checkBuckets n s (suc k)) count)
 
-  pub bucket-breaks : {x p : ℕ} → chainOf s k (mostRecords s - o) .after ≡ Broken x p → checkBuckets (suc n) s k o ≡ refused x p (o + m + itself x)
+  pub bucket-breaks : {x p : ℕ} → chainOf s k (mostRecords s - o) .after ≡ Broken x p → checkBuckets (suc n) s k o ≡ refused x p opened
   unfolding checkBuckets
-  bucket-breaks e = rw (checkBuckets, e) (rw count)
+  bucket-breaks {x} {p} e = rw (checkBuckets, e) (ap (refused x p) count)
 
-  pub bucket-goes-on : {r : ℕ} → chainOf s k (mostRecords s - o) .after ≡ Record r → checkBuckets (suc n) s k o ≡ refused 12 (bucketField s k) (o + m + 1)
+  pub bucket-goes-on : {r : ℕ} → chainOf s k (mostRecords s - o) .after ≡ Record r → checkBuckets (suc n) s k o ≡ refused 12 (bucketField s k) opened
   unfolding checkBuckets
-  bucket-goes-on e = rw (checkBuckets, e) (rw count)
+  bucket-goes-on e = rw (checkBuckets, e) (ap (refused 12 (bucketField s k)) count)
 
-pub check-sound : (s : List ℕ) → Sound s → check s ≡ checkBuckets (buckets s) s 0 0
+pub check-goes-on : (s : List ℕ) → TablesKept s → check s ≡ checkBuckets (buckets s) s 0 0
 unfolding check
-check-sound s e = kept-takes (tablesFault s) _ _ e
+check-goes-on s e = kept-takes (tablesFault s) _ _ e
 
-pub check-refuses : (s : List ℕ) {f : Fault} → tablesFault s ≡ f → (f .number ≡ 0 → ⊥) → check s ≡ refused (f .number) (f .place) 0
+pub check-refuses : (s : List ℕ) {v : Fault} → tablesFault s ≡ v → (v .number ≡ 0 → ⊥) → check s ≡ refused (v .number) (v .place) 0
 unfolding check
-check-refuses s {f} e some = rw e (broken-takes f _ _ some)
+check-refuses s {v} e some = rw e (broken-takes v _ _ some)
 
 -- chains that hold have lengths
 module _ {s : List ℕ} {k : ℕ} (held : HeldBefore s k) where
@@ -45,7 +45,7 @@ module _ {s : List ℕ} {k : ℕ} (held : HeldBefore s k) where
   lengthOf j (yes l) = held .lower j l .0
   lengthOf j (no a) = 0
 
-  pub lengths : (f : ℕ → ℕ) × Lengths s k f
+  pub lengths : (len : ℕ → ℕ) × Lengths s k len
   unfolding lengthOf
   lengths = (λ j. lengthOf j (decLt j k), λ j. go j (decLt j k))
     where
@@ -53,53 +53,52 @@ module _ {s : List ℕ} {k : ℕ} (held : HeldBefore s k) where
       go j (yes l) g = held .lower j l .1
       go j (no a) g = absurd (a g)
 
-module _ {s : List ℕ} (f : ℕ → ℕ) where
+module _ {s : List ℕ} (len : ℕ → ℕ) where
   -- the records of the first k chains lie apart
-  pub chains : (k : ℕ) → Lengths s k f → (xs : List ℕ) × Apart s k xs × (length xs ≡ sum f k)
+  pub chains : (k : ℕ) → Lengths s k len → (xs : List ℕ) × Apart s k xs × (length xs ≡ sum len k)
   unfolding sum
   chains zero h = ([], apart-none s 0, refl)
   chains (suc k) h =
       let (xs, a, e) = chains k (λ j l. h j (omega arith)) in
-      (visits s k (f k) xs, apart-chain a (h k (omega arith)), omega (arith, visits-length s k (f k) xs))
+      (visits s k (len k) xs, apart-chain a (h k (omega arith)), omega (arith, visits-length s k (len k) xs))
 
   -- with n more that keep the rules and do not repeat they are few
-  pub few : {k n : ℕ} → Lengths s k f → KeepsBelow s k n → (Repeat s k n → ⊥) → sum f k + n ≤ mostRecords s
+  pub few : {k n : ℕ} → Lengths s k len → KeepsBelow s k n → (Repeat s k n → ⊥) → sum len k + n ≤ mostRecords s
   few {k} {n} h keeps never =
       let (xs, a, e) = chains k h in
       omega (arith, apart-few a keeps never)
 
-  pub total : {k : ℕ} → Lengths s k f → sum f k ≤ mostRecords s
+  pub total : {k : ℕ} → Lengths s k len → sum len k ≤ mostRecords s
   total {k} h = let (xs, a, e) = chains k h in omega (arith, apart-length a)
 
-  check-along : (k m : ℕ) {N : ℕ} → N ≡ k + m → Lengths s k f → checkBuckets N s 0 0 ≡ checkBuckets m s k (sum f k)
+  check-along : (k m : ℕ) {N : ℕ} → N ≡ k + m → Lengths s k len → checkBuckets N s 0 0 ≡ checkBuckets m s k (sum len k)
   unfolding sum
   check-along zero m {N} e h = let a : N ≡ m = omega arith in rw a
   check-along (suc k) m e h =
-      let g : Holds s k (f k) = h k (omega arith) in
-      let below : Lengths s k f = λ j l. h j (omega arith) in
-      let l : f k ≤ mostRecords s - sum f k = omega (arith, few below (g .keeps) (once g)) in
+      let g : Holds s k (len k) = h k (omega arith) in
+      let below : Lengths s k len = λ j l. h j (omega arith) in
+      let l : len k ≤ mostRecords s - sum len k = omega (arith, few below (g .keeps) (once g)) in
       let c = holds-chain s k l g in
-      check-along k (suc m) (omega arith) below ∙ bucket-ends s m k (sum f k) (counted s k _ c) (after-is c)
+      check-along k (suc m) (omega arith) below ∙ bucket-ends s m k (sum len k) (omega (arith, counted s k _ c)) (after-is c)
 
-  pub answers-accepted : Sound s → Lengths s (buckets s) f → check s ≡ accepted (directories s) (sum f (buckets s))
+  pub answers-accepted : TablesKept s → Lengths s (buckets s) len → check s ≡ accepted (directories s) (sum len (buckets s))
   unfolding checkBuckets
-  answers-accepted sound h = check-sound s sound ∙ check-along (buckets s) 0 {N = buckets s} (omega arith) h
+  answers-accepted tables-kept h = check-goes-on s tables-kept ∙ check-along (buckets s) 0 {N = buckets s} (omega arith) h
 
   -- the check comes to bucket k
-  check-to : {k : ℕ} → k < buckets s → Sound s → Lengths s k f → (m : ℕ) × (check s ≡ checkBuckets (suc m) s k (sum f k))
-  check-to {k} l sound h = (buckets s - suc k, check-sound s sound ∙ check-along k (suc (buckets s - suc k)) (omega arith) h)
+  check-to : {k : ℕ} → k < buckets s → TablesKept s → Lengths s k len → (m : ℕ) × (check s ≡ checkBuckets (suc m) s k (sum len k))
+  check-to {k} l tables-kept h = (buckets s - suc k, check-goes-on s tables-kept ∙ check-along k (suc (buckets s - suc k)) (omega arith) h)
 
-  pub answers-broken : {k n x p : ℕ} → k < buckets s → Sound s → Lengths s k f → Breaks s k n x p → check s ≡ refused x p (sum f k + n + itself x)
-  answers-broken {k} {n} l sound h b =
-      let (m, e) = check-to l sound h in
-      let g : n ≤ mostRecords s - sum f k = omega (arith, few h (b .keeps) (λ c. never-breaks c b)) in
+  pub answers-broken : {k n x p : ℕ} → k < buckets s → TablesKept s → Lengths s k len → Breaks s k n x p → check s ≡ refused x p (sum len k + n + itself x)
+  answers-broken {k} {n} l tables-kept h b =
+      let (m, e) = check-to l tables-kept h in
+      let g : n ≤ mostRecords s - sum len k = omega (arith, few h (b .keeps) (λ c. never-breaks c b)) in
       let c = breaks-chain s k g b in
-      e ∙ bucket-breaks s m k (sum f k) (counted s k _ c) (after-is c)
+      e ∙ bucket-breaks s m k (sum len k) (omega (arith, counted s k _ c)) (after-is c)
 
-  pub answers-loop : {k : ℕ} → 12 ≤ length s → k < buckets s → Sound s → Lengths s k f → ((n : ℕ) → KeepsAt s k n)
+  pub answers-loop : {k : ℕ} → 12 ≤ length s → k < buckets s → TablesKept s → Lengths s k len → ((n : ℕ) → KeepsAt s k n)
       → check s ≡ refused 12 (bucketField s k) (length s - 10)
-  answers-loop {k} long l sound h all =
-      let (m, e) = check-to l sound h in
-      let c = keeps-chain s k {N = mostRecords s - sum f k} (λ n g. all n) in
-      let opened : sum f k + (mostRecords s - sum f k) + 1 ≡ length s - 10 = omega (arith, total h) in
-      e ∙ bucket-goes-on s m k (sum f k) (counted s k _ c) (after-is c) ∙ ap (refused 12 (bucketField s k)) opened
+  answers-loop {k} long l tables-kept h all =
+      let (m, e) = check-to l tables-kept h in
+      let c = keeps-chain s k {N = mostRecords s - sum len k} (λ n g. all n) in
+      e ∙ bucket-goes-on s m k (sum len k) (omega (arith, counted s k _ c, total h)) (after-is c)

@@ -4,7 +4,7 @@ use Prim.Native.Nat.{ℕ, zero, suc, _≤_}
 use mathlib.Core.List.{List}
 use native.Mathlib.Omega.{arith}
 use Rattle.format.specs.Words.{linkField, KeepsBelow, Holds, Breaks}
-use Rattle.format.specs.declared.Link.{Link}
+use Rattle.format.specs.declared.Next.{Next}
 use Rattle.format.specs.Laws.Below.{below-suc}
 use Rattle.format.specs.Laws.Follow.{Leads, to-end, to-broken, to-record, leads}
 use Rattle.format.specs.Laws.Along.{reads-link}
@@ -15,7 +15,7 @@ pub data Course (s : List ℕ) (k N : ℕ) : Type 0 where
   goes-on : KeepsBelow s k (suc N) → Course s k N
 
 module _ (s : List ℕ) (k : ℕ) where
-  one-more : (n : ℕ) → KeepsBelow s k n → {l : Link} → Leads s k (linkField s k n) l → Course s k n
+  one-more : (n : ℕ) → KeepsBelow s k n → {l : Next} → Leads s k (linkField s k n) l → Course s k n
   one-more n keeps (to-end e) = ends {n = n} (omega arith) (record { keeps = keeps; ends = rw reads-link at e })
   one-more n keeps (to-broken real e some) =
       breaks {n = n} (omega arith) (record { keeps = keeps; real = rw reads-link at real; broken = rw (reads-link s k n) at e; some = some })

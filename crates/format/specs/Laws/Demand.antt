@@ -7,23 +7,23 @@ use mathlib.Core.Bool.{true}
 use native.Mathlib.Nat.{mod-lt}
 use native.Mathlib.Omega.{arith}
 use lib.ListN.{length}
-use Rattle.format.specs.Text.{hash, allowed}
+use Rattle.format.specs.String.{hash, allowed}
 use Rattle.format.specs.Header.{buckets, bucketField, directories}
 use Rattle.format.specs.Record.{nameOf, bucketOf}
 use Rattle.format.specs.Chain.{itself}
 use Rattle.format.specs.Answer.{accepted, refused}
 use Rattle.format.specs.Call.{check, lookup}
-use Rattle.format.specs.Words.{NoneBelow, OnChain, Holds, Breaks, Sound, Accepted, Loops, Lengths, sum}
+use Rattle.format.specs.Words.{NoneBelow, OnChain, Holds, Breaks, TablesKept, Accepted, Loops, Lengths, sum}
 use Rattle.format.specs.Demand.{CheckDemand, LookupKept, Demand3, CheckAnswers}
 use Rattle.format.specs.declared.CheckAnswer.{CheckAnswer}
 use Rattle.format.specs.Laws.Faults.{same-number}
 use Rattle.format.specs.Laws.Numbers.{never}
-use Rattle.format.specs.Laws.Header.{header-right}
-use Rattle.format.specs.Laws.Rules.{tables-right, tables-number}
+use Rattle.format.specs.Laws.Header.{header-valid}
+use Rattle.format.specs.Laws.Rules.{tables-keep-header, tables-number}
 use Rattle.format.specs.Laws.Follow.{at-most-one}
 use Rattle.format.specs.Laws.Links.{on-chain, chain-on, one-step, keeps-bucket, never-breaks, broken-number}
 use Rattle.format.specs.Laws.Buckets.{lengths, few, total, check-refuses, answers-accepted, answers-broken, answers-loop}
-use Rattle.format.specs.Laws.Verdict.{Verdict, unsound, right, broken, looped, verdict, sound-long, turns-keep}
+use Rattle.format.specs.Laws.Verdict.{Verdict, tables-broken, right, broken, looped, verdict, tables-long, turns-keep}
 use Rattle.format.specs.Laws.Search.{sought}
 use Rattle.format.specs.Laws.Lookup.{query-allowed}
 use Rattle.format.specs.Laws.LookupAnswers.{InChain, in-chain}
@@ -35,39 +35,39 @@ opened : {a b : CheckAnswer} → a ≡ b → a .opened ≡ b .opened
 opened e = ap (λ (a : CheckAnswer). a .opened) e
 
 module _ {s : List ℕ} where
-  accepts : Accepted s → (f : ℕ → ℕ) → Lengths s (buckets s) f → check s ≡ accepted (directories s) (sum f (buckets s))
-  accepts acc f h = answers-accepted f (acc .sound) h
+  accepts : Accepted s → (len : ℕ → ℕ) → Lengths s (buckets s) len → check s ≡ accepted (directories s) (sum len (buckets s))
+  accepts acc len h = answers-accepted len (acc .tables-kept) h
 
-  breaks : {k n x p : ℕ} (f : ℕ → ℕ) → k < buckets s → Sound s → Lengths s k f → Breaks s k n x p → check s ≡ refused x p (sum f k + n + itself x)
-  breaks f l sound h b = answers-broken f l sound h b
+  breaks : {k n x p : ℕ} (len : ℕ → ℕ) → k < buckets s → TablesKept s → Lengths s k len → Breaks s k n x p → check s ≡ refused x p (sum len k + n + itself x)
+  breaks len l tables-kept h b = answers-broken len l tables-kept h b
 
   loops : {k : ℕ} → Loops s k → check s ≡ refused 12 (bucketField s k) (length s - 10)
   loops l =
-      let (f, h) = lengths (l .held) in
-      answers-loop f (sound-long s (l .held .sound)) (l .bucket) (l .held .sound) h (turns-keep (l .turns))
+      let (len, h) = lengths (l .held) in
+      answers-loop len (tables-long s (l .held .tables-kept)) (l .bucket) (l .held .tables-kept) h (turns-keep (l .turns))
 
   opens : Verdict s → check s .opened ≤ length s - 10
-  opens (unsound e) = omega (arith, opened (check-refuses s e (λ z. omega arith)))
+  opens (tables-broken e) = omega (arith, opened (check-refuses s e (λ z. omega arith)))
   opens (right acc) =
-      let (f, h) = lengths acc in
-      omega (arith, opened (accepts acc f h), total f h)
+      let (len, h) = lengths acc in
+      omega (arith, opened (accepts acc len h), total len h)
   opens (broken {x = x} l held b) =
-      let (f, h) = lengths held in
-      omega (arith, opened (breaks f l (held .sound) h b), few f h (b .keeps) (λ c. never-breaks c b), at-most-one x, sound-long s (held .sound))
+      let (len, h) = lengths held in
+      omega (arith, opened (breaks len l (held .tables-kept) h b), few len h (b .keeps) (λ c. never-breaks c b), at-most-one x, tables-long s (held .tables-kept))
   opens (looped l) = omega (arith, opened (loops l))
 
   loop-of : Verdict s → check s .number ≡ 12 → (k : ℕ) × Loops s k
-  loop-of (unsound e) q =
+  loop-of (tables-broken e) q =
       let told = number (check-refuses s e (λ z. omega arith)) in
       absurd (never 12 (tables-number s) refl (same-number e ∙ sym told ∙ q))
-  loop-of (right acc) q = let (f, h) = lengths acc in absurd (omega (arith, number (accepts acc f h)))
-  loop-of (broken l held b) q = let (f, h) = lengths held in absurd (never 12 (broken-number b) refl (sym (number (breaks f l (held .sound) h b)) ∙ q))
+  loop-of (right acc) q = let (len, h) = lengths acc in absurd (omega (arith, number (accepts acc len h)))
+  loop-of (broken l held b) q = let (len, h) = lengths held in absurd (never 12 (broken-number b) refl (sym (number (breaks len l (held .tables-kept) h b)) ∙ q))
   loop-of (looped {k = k} l) q = (k, l)
 
   accepted-of : Verdict s → check s .number ≡ 0 → Accepted s
-  accepted-of (unsound e) q = absurd (omega (arith, number (check-refuses s e (λ z. omega arith))))
+  accepted-of (tables-broken e) q = absurd (omega (arith, number (check-refuses s e (λ z. omega arith))))
   accepted-of (right acc) q = acc
-  accepted-of (broken l held b) q = let (f, h) = lengths held in absurd (omega (arith, number (breaks f l (held .sound) h b), b .some))
+  accepted-of (broken l held b) q = let (len, h) = lengths held in absurd (omega (arith, number (breaks len l (held .tables-kept) h b), b .some))
   accepted-of (looped l) q = absurd (omega (arith, number (loops l)))
 
   module _ (acc : Accepted s) where
@@ -83,7 +83,7 @@ module _ {s : List ℕ} where
 
     module _ (name : List ℕ) where
       bucket-below : bucketOf s name < buckets s
-      bucket-below = mod-lt (hash name) (header-right s (tables-right s (acc .sound)) .buckets-some)
+      bucket-below = mod-lt (hash name) (header-valid s (tables-keep-header s (acc .tables-kept)) .buckets-some)
 
       -- no record of the name's chain bears the name: no record of any chain does
       nowhere : {n : ℕ} → Holds s (bucketOf s name) n
@@ -97,13 +97,13 @@ module _ {s : List ℕ} where
 
       found : (room n : ℕ) → allowed name ≡ true → Holds s (bucketOf s name) n → InChain s name (bucketOf s name) n (lookup s name room)
       found room n a h =
-          in-chain s name (rw (query-allowed s name a) (tables-right s (acc .sound))) room h (sought s name (bucketOf s name))
+          in-chain s name (rw (query-allowed s name a) (tables-keep-header s (acc .tables-kept))) room h (sought s name (bucketOf s name))
 
 pub check-answers : (s : List ℕ) → CheckAnswers s
 check-answers s = record {
   accepts = accepts;
   refuses-tables = λ x p e. check-refuses s e (λ z. omega arith);
-  refuses-record = λ k n x p f l sound h b. breaks f l sound h b;
+  refuses-record = λ k n x p len l tables-kept h b. breaks len l tables-kept h b;
   refuses-loop = λ k l. loops l;
 }
 
@@ -112,7 +112,7 @@ check-demand s = record {
   opens = λ l. opens (verdict s);
   loop = (loop-of (verdict s), λ h. number (loops (h .1)));
   loop-place = λ k l. ap (λ (a : CheckAnswer). a .place) (loops l);
-  accepted = (accepted-of (verdict s), λ acc. let (f, h) = lengths acc in number (accepts acc f h));
+  accepted = (accepted-of (verdict s), λ acc. let (len, h) = lengths acc in number (accepts acc len h));
 }
 
 pub lookup-demand : (s name : List ℕ) (room : ℕ) → LookupKept s name (lookup s name room)
@@ -127,6 +127,6 @@ pub demand3 : (s : List ℕ) → Demand3 s
 demand3 s = record {
   checks = check-demand s;
   apart = apart;
-  few = λ acc f h. total f h;
+  few = λ acc len h. total len h;
   looks-up = lookup-demand s;
 }

@@ -10,7 +10,7 @@ use lib.ListN.{length, take, drop, length-drop}
 use lib.Dec.{ltb}
 use Rattle.format.specs.Number.{be}
 use Rattle.format.specs.Fault.{fault, ifKept}
-use Rattle.format.specs.Header.{directories, headerFault, pathField, pathPart, pathOf, pathRight, pathFault}
+use Rattle.format.specs.Header.{directories, headerFault, pathField, pathPart, pathOf, validPath, pathFault}
 use Rattle.format.specs.Answer.{partIs}
 use Rattle.format.specs.Call.{directoryFault, directoryPart, directoryPath}
 use Rattle.format.specs.declared.Fault.{Fault}
@@ -45,7 +45,7 @@ module _ (s : List ℕ) (i : ℕ) where
   unfolding directoryFault pathFault
   path-ends e =
       let kept = orElse-none _ _ (orElse-none _ _ (orElse-none _ _ e .1) .1) .0 in
-      let right = unless-none (pathRight s i) 5 (pathField s i) kept in
+      let right = unless-none (validPath s i) 5 (pathField s i) kept in
       whole-string 1023 (pathPart s i) (and-eq-true-iff _ _ .0 right .0) .ended
 
   pub part-inside : directoryPart s i .start + directoryPart s i .length ≤ length s

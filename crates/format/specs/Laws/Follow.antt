@@ -11,13 +11,14 @@ use lib.ListN.{length}
 use lib.Dec.{eqb}
 use Rattle.format.specs.Choice.{if_then_else_}
 use Rattle.format.specs.Layout.{recordSize, endValue}
-use Rattle.format.specs.Number.{be, inside}
+use Rattle.format.specs.Number.{be}
+use Rattle.format.specs.Part.{inside}
 use Rattle.format.specs.Fault.{fault}
 use Rattle.format.specs.Record.{recordFault}
-use Rattle.format.specs.Chain.{linkFault, judged, follow, chained, chain, itself}
+use Rattle.format.specs.Chain.{linkFault, judged, follow, chained, chain, itself, opens}
 use Rattle.format.specs.Words.{Inside, Keeps}
-use Rattle.format.specs.declared.Link.{Link}
-use Rattle.format.specs.declared.Link.the-variants.{End, Broken, Record}
+use Rattle.format.specs.declared.Next.{Next}
+use Rattle.format.specs.declared.Next.the-variants.{End, Broken, Record}
 use Rattle.format.specs.Laws.Faults.{same-number, orElse-none, unless-none, broken-speaks, kept-passes, kept-takes, broken-takes}
 use Rattle.format.specs.Laws.Numbers.{OneOf, linkNumbers, unless-one, orElse-one, widened}
 use Rattle.format.specs.Laws.Rules.{record-number}
@@ -29,6 +30,11 @@ at-most-one x = go (eqb x 7)
     go : (b : Bool) → (if b then 0 else 1) ≤ 1
     go true = omega arith
     go false = omega arith
+
+pub opens-one : (n : Next) → opens n ≤ 1
+opens-one End = zero-le
+opens-one (Broken x p) = at-most-one x
+opens-one (Record r) = omega arith
 
 module _ (s : List ℕ) (k f r : ℕ) where
   pub link-number : OneOf linkNumbers (linkFault s k f r .number)
@@ -53,7 +59,7 @@ module _ (s : List ℕ) (k f r : ℕ) where
       record { inside = leb-true _ _ (unless-none (inside s r recordSize) 6 f (kept .0)); rules = kept .1 }
 
 -- each way, with what it says
-pub data Leads (s : List ℕ) (k f : ℕ) : Link → Type 0 where
+pub data Leads (s : List ℕ) (k f : ℕ) : Next → Type 0 where
   to-end : be 4 s f ≡ endValue → Leads s k f End
   to-broken : {x p : ℕ} → (be 4 s f ≡ endValue → ⊥) → linkFault s k f (be 4 s f) ≡ fault x p → 0 < x → Leads s k f (Broken x p)
   to-record : (be 4 s f ≡ endValue → ⊥) → Keeps s k (be 4 s f) → Leads s k f (Record (be 4 s f))
@@ -64,7 +70,7 @@ module _ (s : List ℕ) (k f : ℕ) where
   real-follow real = rw (follow, ne-eqb _ _ real)
 
   -- what holds of the field says where it leads
-  pub follow-leads : {l : Link} → Leads s k f l → follow s k f ≡ l
+  pub follow-leads : {l : Next} → Leads s k f l → follow s k f ≡ l
   unfolding follow
   follow-leads (to-end e) = rw (follow, eq-eqb _ _ e)
   follow-leads (to-broken {x = x} {p = p} real e some) = real-follow real ∙ rw e (broken-takes (fault x p) _ _ (λ z. omega arith))
@@ -74,7 +80,7 @@ module _ (s : List ℕ) (k f : ℕ) where
   pub leads : Leads s k f (follow s k f)
   leads = elim (ℕ-discrete (be 4 s f) endValue) [ yes e ↦ told (to-end e) | no real ↦ go real (linkFault s k f (be 4 s f) .number) refl ]
     where
-      told : {l : Link} → Leads s k f l → Leads s k f (follow s k f)
+      told : {l : Next} → Leads s k f l → Leads s k f (follow s k f)
       told h = rw (follow-leads h) h
 
       go : (be 4 s f ≡ endValue → ⊥) → (n : ℕ) → linkFault s k f (be 4 s f) .number ≡ n → Leads s k f (follow s k f)
@@ -105,7 +111,7 @@ module _ (s : List ℕ) (k f : ℕ) where
   pub follow-keeps : {r : ℕ} → follow s k f ≡ Record r → (be 4 s f ≡ r) × Keeps s k r
   follow-keeps {r} e = go leads e
     where
-      go : {l : Link} → Leads s k f l → l ≡ Record r → (be 4 s f ≡ r) × Keeps s k r
+      go : {l : Next} → Leads s k f l → l ≡ Record r → (be 4 s f ≡ r) × Keeps s k r
       go (to-end q) e = absurd (let z : _≡_ {A = ℕ} 0 1 = cc in omega arith)
       go (to-broken real q some) e = absurd (let z : _≡_ {A = ℕ} 0 1 = cc in omega arith)
       go (to-record real h) e = let q : be 4 s f ≡ r = cc in (q, rw q at h)
@@ -116,7 +122,7 @@ unfolding chain
 chain-short zero s k f = zero-le
 chain-short (suc n) s k f = go (follow s k f) refl (λ r. chain-short n s k r)
   where
-    go : (l : Link) → follow s k f ≡ l → ((r : ℕ) → length (chain n s k r .records) ≤ n) → length (chain (suc n) s k f .records) ≤ suc n
+    go : (l : Next) → follow s k f ≡ l → ((r : ℕ) → length (chain n s k r .records) ≤ n) → length (chain (suc n) s k f .records) ≤ suc n
     go End e rest = rw (chain, e) zero-le
     go (Broken x p) e rest = rw (chain, e) zero-le
     go (Record r) e rest = rw (chain, e) (suc-le-suc (rest r))

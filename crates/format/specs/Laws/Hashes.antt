@@ -11,7 +11,7 @@ use lib.ListN.{length, take, getD, length-map, List·getD-map}
 use lib.Seq.{take-all}
 use lib.Dec.{T, ltb, eqb}
 use Rattle.format.specs.Choice.{if_then_else_}
-use Rattle.format.specs.Text.{string, signed, hashFrom, hashNumbers, hash, allowed}
+use Rattle.format.specs.String.{string, signed, hashFrom, hashNumbers, hash, allowed}
 use Rattle.format.specs.Header.{buckets}
 use Rattle.format.specs.Record.{bucketOf}
 use Rattle.format.specs.Laws.Names.{allowed-string, allowed-short}

@@ -6,23 +6,23 @@ use mathlib.Core.List.{List}
 use mathlib.Core.Bool.{and-eq-true-iff}
 use borrow.Author.Tests.{ltb-true, leb-true}
 use lib.ListN.{length}
-use Rattle.format.specs.Header.{headerFault, hashAt, buckets, directoriesAt, directories}
+use Rattle.format.specs.Header.{headerFault, bucketsAt, buckets, directoriesAt, directories}
 use Rattle.format.specs.Laws.Faults.{orElse-none, unless-none}
 use Rattle.format.specs.Laws.Numbers.{OneOf, headerNumbers, unless-one, orElse-one}
 use Rattle.format.specs.Laws.Reads.{list-ends}
 
 -- where the tables end, and how many entries they have
-pub record HeaderRight (s : List ℕ) : Type 0 where
+pub record ValidHeader (s : List ℕ) : Type 0 where
   pub header-inside : 12 ≤ length s
   pub not-too-long : length s ≤ 16777216
   pub directories-end : directoriesAt s + 4 + 4 * directories s ≤ length s
   pub directories-few : directories s ≤ 65535
-  pub buckets-end : hashAt s + 4 + 4 * buckets s ≤ length s
+  pub buckets-end : bucketsAt s + 4 + 4 * buckets s ≤ length s
   pub buckets-some : 0 < buckets s
 
-pub header-right : (s : List ℕ) → headerFault s .number ≡ 0 → HeaderRight s
+pub header-valid : (s : List ℕ) → headerFault s .number ≡ 0 → ValidHeader s
 unfolding headerFault
-header-right s h =
+header-valid s h =
     let after1 = orElse-none _ _ h in
     let after2 = orElse-none _ _ (after1 .1) in
     let after3 = orElse-none _ _ (after2 .1) in

@@ -9,7 +9,7 @@ use native.Mathlib.Omega.{arith}
 use lib.ListN.{length, drop, set}
 use Rattle.format.specs.Number.{be}
 use Rattle.format.specs.Fault.{fault, noFault}
-use Rattle.format.specs.Record.{imageRight, imagesFault, firstWord, imageWords}
+use Rattle.format.specs.Record.{validImage, imagesFault, firstWord, imageWords}
 use Rattle.format.specs.Laws.Faults.{broken-speaks, kept-passes}
 
 module _ (s : List ℕ) (p n : ℕ) where
@@ -17,13 +17,13 @@ module _ (s : List ℕ) (p n : ℕ) where
   unfolding imagesFault
   images-end e = rw e
 
-  pub images-stop : (m : ℕ) → n ≡ m + 1 → imageRight s p ≡ false → imagesFault n s p ≡ fault 11 p
+  pub images-stop : (m : ℕ) → n ≡ m + 1 → validImage s p ≡ false → imagesFault n s p ≡ fault 11 p
   unfolding imagesFault
-  images-stop m e broken = rw (e, add-one m) (broken-speaks (imageRight s p) _ _ _ broken)
+  images-stop m e broken = rw (e, add-one m) (broken-speaks (validImage s p) _ _ _ broken)
 
-  pub images-go-on : (m : ℕ) → n ≡ m + 1 → imageRight s p ≡ true → imagesFault n s p ≡ imagesFault m s (p + 8)
+  pub images-go-on : (m : ℕ) → n ≡ m + 1 → validImage s p ≡ true → imagesFault n s p ≡ imagesFault m s (p + 8)
   unfolding imagesFault
-  images-go-on m e kept = rw (e, add-one m) (kept-passes (imageRight s p) _ _ _ kept)
+  images-go-on m e kept = rw (e, add-one m) (kept-passes (validImage s p) _ _ _ kept)
 
 -- two words stored side by side, and what stood after them
 pub two-stored : (ws : List ℕ) (i a b : ℕ) → i + 2 ≤ length ws → drop i (set (set ws i a) (i + 1) b) ≡ a ∷ b ∷ drop (i + 2) ws

@@ -14,7 +14,7 @@ use Rattle.format.specs.Words.{link, linkField, Keeps, KeepsAt, KeepsBel
 use Rattle.format.specs.Laws.Below.{le-unless, lt-unless}
 use Rattle.format.specs.Laws.Faults.{same-number}
 use Rattle.format.specs.Laws.Numbers.{OneOf, linkNumbers}
-use Rattle.format.specs.Laws.Rules.{record-right}
+use Rattle.format.specs.Laws.Rules.{record-valid}
 use Rattle.format.specs.Laws.Follow.{link-number, keeps-link}
 
 -- two steps below n name one record
@@ -27,11 +27,11 @@ pub record Repeat (s : List ℕ) (k n : ℕ) : Type 0 where
 
 -- the name of a record that keeps the rules is one of its bucket
 pub keeps-bucket : {s : List ℕ} {k r : ℕ} → Keeps s k r → bucketOf s (nameOf s r) ≡ k
-keeps-bucket {s} {k} {r} h = record-right s k r (h .rules) .home
+keeps-bucket {s} {k} {r} h = record-valid s k r (h .rules) .home
 
 -- its images lie inside
 pub keeps-listed : {s : List ℕ} {k r : ℕ} → Keeps s k r → imagesAt s r + 4 + 8 * images s r ≤ length s
-keeps-listed {s} {k} {r} h = record-right s k r (h .rules) .listed
+keeps-listed {s} {k} {r} h = record-valid s k r (h .rules) .listed
 
 module _ {s : List ℕ} {k n x p : ℕ} (b : Breaks s k n x p) where
   -- a record that keeps the rules breaks none

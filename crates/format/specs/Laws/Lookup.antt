@@ -10,17 +10,17 @@ use lib.ListN.{length}
 use lib.Dec.{leb}
 use Rattle.format.specs.Choice.{if_then_else_}
 use Rattle.format.specs.Fault.{fault}
-use Rattle.format.specs.Text.{allowed}
+use Rattle.format.specs.String.{allowed}
 use Rattle.format.specs.Header.{headerFault}
 use Rattle.format.specs.Record.{bucketOf, imagesAt, images}
 use Rattle.format.specs.Answer.{unfound, lookedUp}
-use Rattle.format.specs.Call.{queryFault, searchBucket, find, metAnswer, withImages, lookup, answerWords}
+use Rattle.format.specs.Call.{queryFault, searchBucket, find, foundAnswer, withImages, lookup, answerWords}
 use Rattle.format.specs.declared.Fault.{Fault}
 use Rattle.format.specs.declared.Found.{Found}
 use Rattle.format.specs.declared.LookupAnswer.{LookupAnswer}
 use Rattle.format.specs.Laws.Faults.{kept-takes, broken-takes, orElse-none, broken-speaks, kept-passes}
 use Rattle.format.specs.Laws.Numbers.{OneOf, headerNumbers, unless-one, orElse-one, widened}
-use Rattle.format.specs.Laws.Header.{header-right, header-number}
+use Rattle.format.specs.Laws.Header.{header-valid, header-number}
 
 -- what is judged before the search
 module _ (s name : List ℕ) where
@@ -35,7 +35,7 @@ module _ (s name : List ℕ) where
   -- a name that is looked for stands in a buffer with a header
   pub query-long : queryFault s name .number ≡ 0 → 12 ≤ length s
   unfolding queryFault
-  query-long e = header-right s (orElse-none _ _ e .1) .header-inside
+  query-long e = header-valid s (orElse-none _ _ e .1) .header-inside
 
   pub query-number : OneOf (13 ∷ headerNumbers) (queryFault s name .number)
   unfolding queryFault
@@ -56,18 +56,18 @@ answer-keeps s words a h = let some : a .number ≡ suc (a .number - 1) = omega 
 
 -- the two answers to a record that was found
 module _ (s : List ℕ) (room r o : ℕ) where
-  pub met-enough : 2 * images s r ≤ room → metAnswer s room r o ≡ lookedUp 0 r (images s r) o
-  unfolding metAnswer
-  met-enough h = rw (metAnswer, le-leb _ _ h)
+  pub found-enough : 2 * images s r ≤ room → foundAnswer s room r o ≡ lookedUp 0 r (images s r) o
+  unfolding foundAnswer
+  found-enough h = rw (foundAnswer, le-leb _ _ h)
 
-  pub met-short : room < 2 * images s r → metAnswer s room r o ≡ lookedUp 14 (imagesAt s r) (images s r) o
-  unfolding metAnswer
-  met-short h = rw (metAnswer, lt-leb _ _ h)
+  pub found-short : room < 2 * images s r → foundAnswer s room r o ≡ lookedUp 14 (imagesAt s r) (images s r) o
+  unfolding foundAnswer
+  found-short h = rw (foundAnswer, lt-leb _ _ h)
 
   -- what holds of both
-  pub met-either : (P : LookupAnswer → Type 0) → P (lookedUp 0 r (images s r) o) → P (lookedUp 14 (imagesAt s r) (images s r) o) → P (metAnswer s room r o)
-  unfolding metAnswer
-  met-either P enough short = go (leb (2 * images s r) room)
+  pub found-either : (P : LookupAnswer → Type 0) → P (lookedUp 0 r (images s r) o) → P (lookedUp 14 (imagesAt s r) (images s r) o) → P (foundAnswer s room r o)
+  unfolding foundAnswer
+  found-either P enough short = go (leb (2 * images s r) room)
     where
       go : (b : Bool) → P (if b then lookedUp 0 r (images s r) o else lookedUp 14 (imagesAt s r) (images s r) o)
       go true = enough
@@ -75,7 +75,7 @@ module _ (s : List ℕ) (room r o : ℕ) where
 
 -- the lookup from the search's answer
 module _ (s name : List ℕ) (room : ℕ) {a : Found} (e : find s name ≡ a) where
-  pub lookup-found : a .number ≡ 0 → lookup s name room ≡ metAnswer s room (a .place) (a .opened)
+  pub lookup-found : a .number ≡ 0 → lookup s name room ≡ foundAnswer s room (a .place) (a .opened)
   unfolding lookup withImages
   lookup-found none = rw (lookup, e, none)
 

@@ -10,7 +10,7 @@ use Rattle.format.specs.Header.{bucketField}
 use Rattle.format.specs.Record.{bucketOf, nameOf}
 use Rattle.format.specs.Chain.{mostRecords, itself}
 use Rattle.format.specs.Answer.{lookedUp}
-use Rattle.format.specs.Call.{queryFault, searchBucket, find, metAnswer, lookup}
+use Rattle.format.specs.Call.{queryFault, searchBucket, find, foundAnswer, lookup}
 use Rattle.format.specs.Words.{link, Keeps, KeepsAt, KeepsBelow, NoneBelow, Holds, Breaks, Turns}
 use Rattle.format.specs.Demand.{WalkAnswers, LookupAnswers}
 use Rattle.format.specs.declared.Found.{Found}
@@ -19,7 +19,7 @@ use Rattle.format.specs.Laws.Numbers.{OneOf, headerNumbers, linkNumbers,
 use Rattle.format.specs.Laws.Links.{earlier, once, round, broken-number, keeps-le, before-end, unbroken}
 use Rattle.format.specs.Laws.Apart.{apart-none, repeats}
 use Rattle.format.specs.Laws.Search.{search-absent, search-finds, search-breaks, search-lasts, within, Sought, absent, met, broken, lasts, sought}
-use Rattle.format.specs.Laws.Lookup.{query-long, query-number, find-refuses, find-searches, met-either, lookup-found, lookup-unfound}
+use Rattle.format.specs.Laws.Lookup.{query-long, query-number, find-refuses, find-searches, found-either, lookup-found, lookup-unfound}
 use Rattle.format.specs.Laws.Verdict.{turns, turns-keep}
 
 -- the answer to a lookup in a chain of n records that holds
@@ -58,7 +58,7 @@ module _ (s name : List ℕ) (asks : queryFault s name .number ≡ 0) where
     says-absent n h none = lookup-unfound s name room (searches (search-absent s name bucket n h none)) (λ z. omega arith)
 
     says-found : (n : ℕ) → KeepsBelow s bucket n → NoneBelow s name bucket n → KeepsAt s bucket n → nameOf s (link s bucket n) ≡ name
-        → lookup s name room ≡ metAnswer s room (link s bucket n) (n + 1)
+        → lookup s name room ≡ foundAnswer s room (link s bucket n) (n + 1)
     says-found n keeps none here same = lookup-found s name room (searches (search-finds s name bucket n keeps none here same)) refl
 
     says-broken : (n x p : ℕ) → Breaks s bucket n x p → NoneBelow s name bucket n → lookup s name room ≡ lookedUp x p 0 (n + itself x)
@@ -74,7 +74,7 @@ module _ (s name : List ℕ) (asks : queryFault s name .number ≡ 0) where
     turns-nameless : lookup s name room .number ≡ 12 → Sought s name bucket → Turns s bucket × ((n : ℕ) → nameOf s (link s bucket n) ≡ name → ⊥)
     turns-nameless e (absent {n = n} h none) = absurd (omega (arith, looked (says-absent n h none)))
     turns-nameless e (met {n = n} keeps none here same) =
-        absurd (met-either s room _ _ (λ a. a .number ≡ 12 → ⊥) (λ q. omega arith) (λ q. omega arith) (rw (says-found n keeps none here same) at e))
+        absurd (found-either s room _ _ (λ a. a .number ≡ 12 → ⊥) (λ q. omega arith) (λ q. omega arith) (rw (says-found n keeps none here same) at e))
     turns-nameless e (broken {n = n} {x = x} {p = p} b none) =
         absurd (never 12 (broken-number b) refl (sym (looked (says-broken n x p b none)) ∙ e))
     turns-nameless e (lasts keeps none) =
@@ -97,7 +97,7 @@ module _ (s name : List ℕ) (asks : queryFault s name .number ≡ 0) where
     search-number (absent {n = n} h none) = rw (says-absent n h none) (record { one = refl })
     search-number (met {n = n} keeps none here same) =
         rw (says-found n keeps none here same)
-        (met-either s room _ _ (λ a. OneOf lookupNumbers (a .number)) (record { one = refl }) (record { one = refl }))
+        (found-either s room _ _ (λ a. OneOf lookupNumbers (a .number)) (record { one = refl }) (record { one = refl }))
     search-number (broken {n = n} {x = x} {p = p} b none) = rw (says-broken n x p b none) (widened refl (broken-number b))
     search-number (lasts keeps none) = rw (says-endless keeps none) (record { one = refl })
 
@@ -111,7 +111,7 @@ module _ (s name : List ℕ) (asks : queryFault s name .number ≡ 0) where
           rw (says-absent m c none) (record { opens = keeps-le h (c .keeps); absent = (λ e i d. none i (omega (arith, keeps-le c (h .keeps))), λ x. refl) })
       in-chain (met {n = m} keeps none here same) =
           let d : m < n = before-end h (λ i g. keeps i g .0) (here .0) in
-          rw (says-found m keeps none here same) (met-either s room _ _ (InChain s name bucket n) (there d same _ refl (λ e. omega arith)) (there d same _ refl (λ e. omega arith)))
+          rw (says-found m keeps none here same) (found-either s room _ _ (InChain s name bucket n) (there d same _ refl (λ e. omega arith)) (there d same _ refl (λ e. omega arith)))
       in-chain (broken b none) = absurd (unbroken h b)
       in-chain (lasts keeps none) = absurd (omega (arith, keeps-le h keeps, within s name bucket (h .keeps) (once h)))
 

@@ -8,7 +8,7 @@ use borrow.Author.Tests.{leb-true, eqb-true, eq-eqb}
 use lib.ListN.{length}
 use lib.Seq.{take-length}
 use lib.Dec.{ltb, leb, eqb}
-use Rattle.format.specs.Text.{string, sameBytes, allowed}
+use Rattle.format.specs.String.{string, sameBytes, allowed}
 use Rattle.format.specs.Laws.Strings.{string-front}
 
 pub same-equal : (a b : List ℕ) → sameBytes a b ≡ true → a ≡ b

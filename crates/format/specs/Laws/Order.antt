@@ -19,9 +19,9 @@ links-at s k (suc n) m l = elim (ℕ-discrete m n) [
   | no a ↦ List·getD-append (links s k n) (link s k n ∷ []) 0 m (omega (arith, links-length s k n)) ∙ links-at s k n m (omega arith)
 ]
 
-module _ (f : ℕ → ℕ) where
+module _ (len : ℕ → ℕ) where
   -- the records of a chain come before those of a later one
-  pub sum-before : (k : ℕ) {j : ℕ} → j < k → sum f j + f j ≤ sum f k
+  pub sum-before : (k : ℕ) {j : ℕ} → j < k → sum len j + len j ≤ sum len k
   unfolding sum
   sum-before zero l = absurd (omega arith)
   sum-before (suc k) {j} l = elim (ℕ-discrete j k) [
@@ -30,37 +30,37 @@ module _ (f : ℕ → ℕ) where
   ]
 
   -- each number below the sum is that of a record
-  pub located : (k : ℕ) {n : ℕ} → n < sum f k → (j m : ℕ) × (j < k) × (m < f j) × (n ≡ sum f j + m)
+  pub located : (k : ℕ) {n : ℕ} → n < sum len k → (j m : ℕ) × (j < k) × (m < len j) × (n ≡ sum len j + m)
   unfolding sum
   located zero l = absurd (omega arith)
-  located (suc k) {n} l = elim (decLt n (sum f k)) [
+  located (suc k) {n} l = elim (decLt n (sum len k)) [
     | yes c ↦ let (j, m, a, b, e) = located k c in (j, m, omega arith, b, e)
-    | no c ↦ (k, n - sum f k, omega arith, omega arith, omega arith)
+    | no c ↦ (k, n - sum len k, omega arith, omega arith, omega arith)
   ]
 
-module _ {s : List ℕ} (f : ℕ → ℕ) where
+module _ {s : List ℕ} (len : ℕ → ℕ) where
   -- the records of a chain that holds
-  chain-records : (k : ℕ) → Holds s k (f k) → chainOf s k (mostRecords s) .records ≡ links s k (f k)
+  chain-records : (k : ℕ) → Holds s k (len k) → chainOf s k (mostRecords s) .records ≡ links s k (len k)
   chain-records k h = ap (λ (c : Chain). c .records) (holds-chain s k (holds-few h) h)
 
-  pub records-length : (k : ℕ) → Lengths s k f → length (recordsBelow s k) ≡ sum f k
+  pub records-length : (k : ℕ) → Lengths s k len → length (recordsBelow s k) ≡ sum len k
   unfolding recordsBelow sum
   records-length zero h = refl
   records-length (suc k) h =
       rw (chain-records k (h k (omega arith)))
-      (omega (arith, length-append (recordsBelow s k) (links s k (f k)), records-length k (λ j l. h j (omega arith)), links-length s k (f k)))
+      (omega (arith, length-append (recordsBelow s k) (links s k (len k)), records-length k (λ j l. h j (omega arith)), links-length s k (len k)))
 
-  pub record-at : (k : ℕ) → Lengths s k f → {j m : ℕ} → j < k → m < f j → getD (recordsBelow s k) (sum f j + m) 0 ≡ link s j m
+  pub record-at : (k : ℕ) → Lengths s k len → {j m : ℕ} → j < k → m < len j → getD (recordsBelow s k) (sum len j + m) 0 ≡ link s j m
   unfolding recordsBelow
   record-at zero h l c = absurd (omega arith)
   record-at (suc k) h {j} {m} l c =
-      let below : Lengths s k f = λ i g. h i (omega arith) in
+      let below : Lengths s k len = λ i g. h i (omega arith) in
       elim (ℕ-discrete j k) [
         | yes e ↦
-            rw (chain-records k (h k (omega arith)), e, ← (records-length k below)) (getD-append-add (recordsBelow s k) (links s k (f k)) m 0)
-            ∙ links-at s j (f j) m c
+            rw (chain-records k (h k (omega arith)), e, ← (records-length k below)) (getD-append-add (recordsBelow s k) (links s k (len k)) m 0)
+            ∙ links-at s j (len j) m c
         | no a ↦
             let b : j < k = omega arith in
-            List·getD-append (recordsBelow s k) (chainOf s k (mostRecords s) .records) 0 (sum f j + m) (omega (arith, records-length k below, sum-before f k b))
+            List·getD-append (recordsBelow s k) (chainOf s k (mostRecords s) .records) 0 (sum len j + m) (omega (arith, records-length k below, sum-before len k b))
             ∙ record-at k below b c
       ]

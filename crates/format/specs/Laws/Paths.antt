@@ -8,9 +8,9 @@ use native.Mathlib.Omega.{arith}
 use borrow.Author.Tests.{eq-eqb, ne-eqb}
 use lib.ListN.{getD}
 use Rattle.format.specs.Fault.{fault, noFault}
-use Rattle.format.specs.Text.{string, text, isWhole}
-use Rattle.format.specs.Segments.{slash, segmentsRight}
-use Rattle.format.specs.Header.{pathField, pathPart, pathOf, pathRight, pathFault, pathsFault}
+use Rattle.format.specs.String.{string, extent, isWhole}
+use Rattle.format.specs.Segments.{slash, validSegments}
+use Rattle.format.specs.Header.{pathField, pathPart, pathOf, validPath, pathFault, pathsFault}
 use Rattle.format.specs.Laws.Faults.{orElse-first, orElse-next, broken-speaks, kept-passes}
 
 -- a string starts with the first byte of its part; where it is empty that is 0
@@ -22,25 +22,25 @@ string-first (suc b ∷ t) = refl
 
 -- the ways in which the path of directory i breaks rule 6 or 16, and how it keeps both
 module _ (s : List ℕ) (i : ℕ) where
-  pub path-not-whole : isWhole (text 1023 (pathPart s i)) ≡ false → pathFault s i ≡ fault 6 (pathField s i)
+  pub path-not-whole : isWhole (extent 1023 (pathPart s i)) ≡ false → pathFault s i ≡ fault 6 (pathField s i)
   unfolding pathFault
-  path-not-whole e = broken-speaks (pathRight s i) _ _ _ (rw e)
+  path-not-whole e = broken-speaks (validPath s i) _ _ _ (rw e)
 
   pub path-absolute : getD (pathPart s i) 0 0 ≡ slash → pathFault s i ≡ fault 6 (pathField s i)
   unfolding pathFault
-  path-absolute e = broken-speaks (pathRight s i) _ _ _ (rw (string-first, eq-eqb _ _ e, and-false))
+  path-absolute e = broken-speaks (validPath s i) _ _ _ (rw (string-first, eq-eqb _ _ e, and-false))
 
-  module _ (whole : isWhole (text 1023 (pathPart s i)) ≡ true) (relative : getD (pathPart s i) 0 0 ≡ slash → ⊥) where
-    rule-6-kept : pathRight s i ≡ true
+  module _ (whole : isWhole (extent 1023 (pathPart s i)) ≡ true) (relative : getD (pathPart s i) 0 0 ≡ slash → ⊥) where
+    rule-6-kept : validPath s i ≡ true
     rule-6-kept = rw (whole, string-first, ne-eqb _ _ relative)
 
-    pub path-segments : segmentsRight (pathOf s i) ≡ false → pathFault s i ≡ fault 16 (pathField s i)
+    pub path-segments : validSegments (pathOf s i) ≡ false → pathFault s i ≡ fault 16 (pathField s i)
     unfolding pathFault
-    path-segments e = kept-passes (pathRight s i) _ _ _ rule-6-kept ∙ rw e
+    path-segments e = kept-passes (validPath s i) _ _ _ rule-6-kept ∙ rw e
 
-    pub path-kept : segmentsRight (pathOf s i) ≡ true → pathFault s i ≡ noFault
+    pub path-kept : validSegments (pathOf s i) ≡ true → pathFault s i ≡ noFault
     unfolding pathFault
-    path-kept e = kept-passes (pathRight s i) _ _ _ rule-6-kept ∙ rw e
+    path-kept e = kept-passes (validPath s i) _ _ _ rule-6-kept ∙ rw e
 
 -- n paths from directory i on: none is left, the first breaks a rule, or it keeps both
 pub paths-end : (s : List ℕ) (i n : ℕ) → n ≡ 0 → pathsFault n s i ≡ noFault

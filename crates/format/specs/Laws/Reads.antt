@@ -8,7 +8,8 @@ use native.Mathlib.Nat.{add-zero, add-suc, add-assoc, add-mul, mul-one, mul-asso
 use native.Mathlib.Omega.{arith}
 use borrow.Author.Tests.{leb-true}
 use lib.ListN.{length}
-use Rattle.format.specs.Number.{be, inside, listInside}
+use Rattle.format.specs.Number.{be}
+use Rattle.format.specs.Part.{inside, listInside}
 
 -- v bytes and the w after them, read as one number
 pub be-join : (v w : ℕ) (s : List ℕ) (p : ℕ) → be (v + w) s p ≡ be v s p * 256 ^ w + be w s (p + v)

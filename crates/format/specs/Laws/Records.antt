@@ -6,22 +6,22 @@ use mathlib.Core.List.{List}
 use mathlib.Core.Bool.{true, false, and-eq-true-iff}
 use borrow.Author.Tests.{eq-eqb, ne-eqb}
 use Rattle.format.specs.Fault.{fault, noFault, unless}
-use Rattle.format.specs.Record.{nameOf, bucketOf, imagesAt, images, nameRight, listRight, bearsName, imagesFault, nameFault, listFault, recordFault}
+use Rattle.format.specs.Record.{nameOf, bucketOf, imagesAt, images, validName, validImageList, bearsName, imagesFault, nameFault, listFault, recordFault}
 use Rattle.format.specs.Laws.Names.{same-equal}
 use Rattle.format.specs.Laws.Faults.{orElse-first, orElse-next, broken-speaks, kept-passes}
 
 module _ (s : List ℕ) (k r : ℕ) where
-  pub name-unread : nameRight s r ≡ false → nameFault s k r ≡ fault 8 (r + 4)
+  pub name-unread : validName s r ≡ false → nameFault s k r ≡ fault 8 (r + 4)
   unfolding nameFault
-  name-unread e = broken-speaks (nameRight s r) _ _ _ e
+  name-unread e = broken-speaks (validName s r) _ _ _ e
 
-  pub name-foreign : nameRight s r ≡ true → (bucketOf s (nameOf s r) ≡ k → ⊥) → nameFault s k r ≡ fault 9 (r + 4)
+  pub name-foreign : validName s r ≡ true → (bucketOf s (nameOf s r) ≡ k → ⊥) → nameFault s k r ≡ fault 9 (r + 4)
   unfolding nameFault
-  name-foreign e h = kept-passes (nameRight s r) _ _ _ e ∙ ap (λ b. unless b 9 (r + 4)) (ne-eqb _ _ h)
+  name-foreign e h = kept-passes (validName s r) _ _ _ e ∙ ap (λ b. unless b 9 (r + 4)) (ne-eqb _ _ h)
 
-  pub name-home : nameRight s r ≡ true → bucketOf s (nameOf s r) ≡ k → nameFault s k r ≡ noFault
+  pub name-home : validName s r ≡ true → bucketOf s (nameOf s r) ≡ k → nameFault s k r ≡ noFault
   unfolding nameFault
-  name-home e h = kept-passes (nameRight s r) _ _ _ e ∙ ap (λ b. unless b 9 (r + 4)) (eq-eqb _ _ h)
+  name-home e h = kept-passes (validName s r) _ _ _ e ∙ ap (λ b. unless b 9 (r + 4)) (eq-eqb _ _ h)
 
   pub record-misnamed : (nameFault s k r .number ≡ 0 → ⊥) → recordFault s k r ≡ nameFault s k r
   unfolding recordFault
@@ -32,16 +32,16 @@ module _ (s : List ℕ) (k r : ℕ) where
   record-named e = orElse-next _ _ e
 
 module _ (s : List ℕ) (r : ℕ) where
-  pub list-broken : listRight s (imagesAt s r) ≡ false → listFault s r ≡ fault 10 (r + 8)
+  pub list-broken : validImageList s (imagesAt s r) ≡ false → listFault s r ≡ fault 10 (r + 8)
   unfolding listFault
-  list-broken e = broken-speaks (listRight s (imagesAt s r)) _ _ _ e
+  list-broken e = broken-speaks (validImageList s (imagesAt s r)) _ _ _ e
 
-  pub list-kept : listRight s (imagesAt s r) ≡ true → listFault s r ≡ imagesFault (images s r) s (imagesAt s r + 4)
+  pub list-kept : validImageList s (imagesAt s r) ≡ true → listFault s r ≡ imagesFault (images s r) s (imagesAt s r + 4)
   unfolding listFault
-  list-kept e = kept-passes (listRight s (imagesAt s r)) _ _ _ e
+  list-kept e = kept-passes (validImageList s (imagesAt s r)) _ _ _ e
 
 -- a record that bears the wanted name keeps rules 8 and 9 where that name is at home
 pub met-home : (s wanted : List ℕ) (k r : ℕ) → bucketOf s wanted ≡ k → bearsName s r wanted ≡ true → nameFault s k r ≡ noFault
 met-home s wanted k r home e =
-    let both = and-eq-true-iff (nameRight s r) _ .0 e in
+    let both = and-eq-true-iff (validName s r) _ .0 e in
     name-home s k r (both .0) (ap (bucketOf s) (same-equal (nameOf s r) wanted (both .1)) ∙ home)

@@ -9,7 +9,7 @@ use borrow.Author.Tests.{eqb-true}
 use lib.ListN.{length}
 use Rattle.format.specs.Layout.{imageSize}
 use Rattle.format.specs.Header.{directories, headerFault, pathFault, pathsFault, tablesFault}
-use Rattle.format.specs.Record.{namePart, nameOf, bucketOf, imagesAt, images, nameFault, listFault, recordFault, imagesFault, nameRight, imageRight}
+use Rattle.format.specs.Record.{namePart, nameOf, bucketOf, imagesAt, images, nameFault, listFault, recordFault, imagesFault, validName, validImage}
 use Rattle.format.specs.Laws.Faults.{unless-none, orElse-first, orElse-next, orElse-none}
 use Rattle.format.specs.Laws.Numbers.{OneOf, tablesNumbers, recordNumbers, unless-one, orElse-one, widened}
 use Rattle.format.specs.Laws.Header.{header-number}
@@ -18,8 +18,8 @@ use Rattle.format.specs.Laws.Strings.{whole-string}
 
 -- what a record tells that keeps rules 8 to 10: its name is whole and so not empty, stands in its
 -- own bucket, and its images lie inside
-pub record RecordRight (s : List ℕ) (k r : ℕ) : Type 0 where
-  pub named : nameRight s r ≡ true
+pub record ValidRecord (s : List ℕ) (k r : ℕ) : Type 0 where
+  pub named : validName s r ≡ true
   pub has-name : nameOf s r ≡ [] → ⊥
   pub home : bucketOf s (nameOf s r) ≡ k
   pub listed : imagesAt s r + 4 + 8 * images s r ≤ length s
@@ -46,23 +46,23 @@ module _ (s : List ℕ) where
   unfolding tablesFault
   tables-paths h = orElse-next _ _ h
 
-  pub tables-right : tablesFault s .number ≡ 0 → headerFault s .number ≡ 0
+  pub tables-keep-header : tablesFault s .number ≡ 0 → headerFault s .number ≡ 0
   unfolding tablesFault
-  tables-right e = orElse-none _ _ e .0
+  tables-keep-header e = orElse-none _ _ e .0
 
   images-number : (m at : ℕ) → OneOf recordNumbers (imagesFault m s at .number)
   unfolding imagesFault
   images-number zero at = record { one = refl }
-  images-number (suc m) at = orElse-one _ _ (unless-one (imageRight s at) _ _ refl) (images-number m (at + imageSize))
+  images-number (suc m) at = orElse-one _ _ (unless-one (validImage s at) _ _ refl) (images-number m (at + imageSize))
 
   module _ (k r : ℕ) where
     pub record-number : OneOf recordNumbers (recordFault s k r .number)
     unfolding recordFault nameFault listFault
     record-number = search (orElse-one, unless-one, images-number)
 
-    pub record-right : recordFault s k r .number ≡ 0 → RecordRight s k r
+    pub record-valid : recordFault s k r .number ≡ 0 → ValidRecord s k r
     unfolding recordFault nameFault listFault
-    record-right e =
+    record-valid e =
         let name = orElse-none _ _ (orElse-none _ _ e .0) in
         let list = orElse-none _ _ (orElse-none _ _ e .1) in
         let whole = unless-none _ _ _ (name .0) in

@@ -4,16 +4,17 @@ use Prim.Native.Nat.{ℕ, zero, suc, _+_, _-_, _≤_, _<_}
 use mathlib.Core.Path.{_≡_, refl, sym, ap, _∙_}
 use mathlib.Core.Logic.{_⊎_, inl, inr}
 use mathlib.Core.List.{List, [], _∷_, _++_, append-assoc, append-nil}
+use native.Mathlib.Nat.{add-zero}
 use native.Mathlib.Numerals.{add-one}
 use native.Mathlib.Omega.{arith}
 use Rattle.format.specs.Header.{bucketField}
 use Rattle.format.specs.Record.{nameOf}
-use Rattle.format.specs.Chain.{chained, chain, chainOf, mostRecords, itself}
+use Rattle.format.specs.Chain.{chained, chain, chainOf, mostRecords, itself, opens}
 use Rattle.format.specs.Answer.{found, unfound}
 use Rattle.format.specs.Call.{unnamed, firstNamed, searchBucket}
 use Rattle.format.specs.Words.{link, linkField, KeepsAt, KeepsBelow, NoneBelow, Holds, Breaks}
 use Rattle.format.specs.declared.Found.{Found}
-use Rattle.format.specs.declared.Link.{Link}
+use Rattle.format.specs.declared.Next.{Next}
 use Rattle.format.specs.Laws.Below.{below-suc}
 use Rattle.format.specs.Laws.Names.{equal-same, unequal-other, equal-or-not}
 use Rattle.format.specs.Laws.Along.{links, links-length, chain-along, holds-chain, breaks-chain, keeps-chain}
@@ -42,8 +43,8 @@ module _ (s name : List ℕ) (k : ℕ) where
       ∙ search-next s name (link s k n) rs n a (none n (omega arith))
       ∙ rw add-one
 
-  search-unnamed : (n : ℕ) {l : Link} → chainOf s k (mostRecords s) ≡ chained (links s k n) l → NoneBelow s name k n
-      → searchBucket s name k ≡ unnamed (bucketField s k) l n
+  search-unnamed : (n : ℕ) {l : Next} → chainOf s k (mostRecords s) ≡ chained (links s k n) l → NoneBelow s name k n
+      → searchBucket s name k ≡ unnamed (bucketField s k) l (n + opens l)
   unfolding searchBucket firstNamed
   search-unnamed n e none = rw (searchBucket, e, links-length s k n, ← (append-nil (links s k n))) (search-past n [] _ none)
 
@@ -56,8 +57,7 @@ module _ (s name : List ℕ) (k : ℕ) where
   first-met {n} none same c = let (i, l, e) = earlier c n in none i (omega (arith, c .below)) (sym (ap (nameOf s) e) ∙ same)
 
   pub search-absent : (n : ℕ) → Holds s k n → NoneBelow s name k n → searchBucket s name k ≡ unfound 30 0 n
-  unfolding unnamed
-  search-absent n h none = search-unnamed n (holds-chain s k (within (h .keeps) (once h)) h) none
+  search-absent n h none = search-unnamed n (holds-chain s k (within (h .keeps) (once h)) h) none ∙ rw add-zero
 
   pub search-finds : (n : ℕ) → KeepsBelow s k n → NoneBelow s name k n → KeepsAt s k n → nameOf s (link s k n) ≡ name
       → searchBucket s name k ≡ found (link s k n) (n + 1)
@@ -70,12 +70,10 @@ module _ (s name : List ℕ) (k : ℕ) where
       (search-past n (link s k n ∷ rest) _ none ∙ search-met s name (link s k n) rest n _ same)
 
   pub search-breaks : (n x p : ℕ) → Breaks s k n x p → NoneBelow s name k n → searchBucket s name k ≡ unfound x p (n + itself x)
-  unfolding unnamed
   search-breaks n x p b none = search-unnamed n (breaks-chain s k (within (b .keeps) (λ c. never-breaks c b)) b) none
 
   pub search-lasts : KeepsBelow s k (suc (mostRecords s)) → NoneBelow s name k (mostRecords s)
       → searchBucket s name k ≡ unfound 12 (bucketField s k) (mostRecords s + 1)
-  unfolding unnamed
   search-lasts keeps none = search-unnamed (mostRecords s) (keeps-chain s k keeps) none
 
   -- the first of n records that bears it, if one does

@@ -9,40 +9,26 @@ use borrow.Author.Tests.{ne-eqb, eqb-true, eqb-false}
 use lib.Dec.{eqb}
 use lib.ListN.{getD}
 use Rattle.format.specs.Choice.{if_then_else_}
-use Rattle.format.specs.Segments.{slash, lengthened, segments, segmentRight, allRight, segmentsRight}
-
--- there is always a first segment
-data Some : List (List ℕ) → Type 0 where
-  some : (p : List ℕ) (ps : List (List ℕ)) → Some (p ∷ ps)
-
-first : (t : List ℕ) → Some (segments t)
-unfolding segments
-first [] = some [] []
-first (b ∷ t) = go (eqb b slash) (first t)
-  where
-    go : (c : Bool) {ps : List (List ℕ)} → Some ps → Some (if c then [] ∷ ps else lengthened b ps)
-    go true {ps} f = some [] ps
-    go false (some p ps) = some (b ∷ p) ps
+use Rattle.format.specs.Segments.{slash, firstPiece, laterPieces, segments, validSegment, allValid, validSegments}
 
 -- the segments of two paths with a slash between them are those of the one and then those of the
 -- other
 segments-append : (a t : List ℕ) → segments (a ++ slash ∷ t) ≡ segments a ++ segments t
-unfolding segments
+unfolding segments firstPiece laterPieces
 segments-append [] t = refl
-segments-append (b ∷ a) t = rw (segments-append a t) (go (eqb b slash) (first a))
+segments-append (b ∷ a) t = go (eqb b slash) (segments-append a t)
   where
-    go : (c : Bool) {ps : List (List ℕ)} → Some ps
-        → (if c then [] ∷ (ps ++ segments t) else lengthened b (ps ++ segments t)) ≡ (if c then [] ∷ ps else lengthened b ps) ++ segments t
-    go true f = refl
-    go false (some p ps) = refl
+    go : (c : Bool) → segments (a ++ slash ∷ t) ≡ segments a ++ segments t
+        → _≡_ {A = List (List ℕ)}
+        ((if c then [] else b ∷ firstPiece (a ++ slash ∷ t)) ∷ (if c then segments (a ++ slash ∷ t) else laterPieces (a ++ slash ∷ t)))
+        ((if c then [] else b ∷ firstPiece a) ∷ ((if c then segments a else laterPieces a) ++ segments t))
+    go true e = rw e
+    go false e = cc
 
-all-append : (ps qs : List (List ℕ)) → allRight (ps ++ qs) ≡ (allRight ps && allRight qs)
-unfolding allRight
+all-append : (ps qs : List (List ℕ)) → allValid (ps ++ qs) ≡ (allValid ps && allValid qs)
+unfolding allValid
 all-append [] qs = refl
-all-append (p ∷ ps) qs = rw (all-append ps qs) (sym (and-assoc (segmentRight p) (allRight ps) (allRight qs)))
-
-slash-between : (a t : List ℕ) → segmentsRight (a ++ slash ∷ t) ≡ (segmentsRight a && segmentsRight t)
-slash-between a t = ap allRight (segments-append a t) ∙ all-append (segments a) (segments t)
+all-append (p ∷ ps) qs = rw (all-append ps qs) (sym (and-assoc (validSegment p) (allValid ps) (allValid qs)))
 
 -- bytes without a slash are one segment
 abbrev pub NoSlash : List ℕ → Type 0
@@ -58,17 +44,17 @@ more-free (c ∷ p) b h other zero e = h zero e
 more-free (c ∷ p) b h other (suc n) e = more-free p b (λ m. h (suc m)) other n e
 
 free-segment : (p : List ℕ) → NoSlash p → segments p ≡ p ∷ []
-unfolding segments
+unfolding segments firstPiece laterPieces
 free-segment [] h = refl
-free-segment (b ∷ p) h = rw (ne-eqb b slash (h zero), free-segment p (λ n. h (suc n)))
+free-segment (b ∷ p) h = let e = free-segment p (λ n. h (suc n)) in rw (ne-eqb b slash (h zero)) (cc)
 
 -- so they are judged by themselves, at the end of a path and before a slash
-pub last-right : (p : List ℕ) → NoSlash p → segmentsRight p ≡ segmentRight p
-unfolding allRight
-last-right p h = rw (free-segment p h) (and-true (segmentRight p))
+pub last-valid : (p : List ℕ) → NoSlash p → validSegments p ≡ validSegment p
+unfolding allValid
+last-valid p h = ap allValid (free-segment p h) ∙ and-true (validSegment p)
 
-pub first-right : (p t : List ℕ) → NoSlash p → segmentsRight (p ++ slash ∷ t) ≡ (segmentRight p && segmentsRight t)
-first-right p t h = rw (slash-between p t, last-right p h)
+pub first-valid : (p t : List ℕ) → NoSlash p → validSegments (p ++ slash ∷ t) ≡ (validSegment p && validSegments t)
+first-valid p t h = ap allValid (segments-append p t) ∙ all-append (segments p) (segments t) ∙ ap (λ b. b && validSegments t) (last-valid p h)
 
 -- Cutting at the slashes, said apart from how it is done: the pieces, each after a slash, are the
 -- path after a slash, and no piece holds one.
@@ -81,28 +67,28 @@ pub record CutAtSlashes (path : List ℕ) (ps : List (List ℕ)) : Type 0 where
   pub free : (m : ℕ) → NoSlash (getD ps m [])
 
 segments-whole : (path : List ℕ) → together (segments path) ≡ slash ∷ path
-unfolding segments
+unfolding segments firstPiece laterPieces
 segments-whole [] = refl
-segments-whole (b ∷ t) = go (eqb b slash) refl (first t) (segments-whole t)
+segments-whole (b ∷ t) = go (eqb b slash) refl (segments-whole t)
   where
-    go : (c : Bool) → eqb b slash ≡ c → {ps : List (List ℕ)} → Some ps → together ps ≡ slash ∷ t
-        → together (if c then [] ∷ ps else lengthened b ps) ≡ slash ∷ b ∷ t
-    go true q f e = rw (e, eqb-true b slash q)
-    go false q (some p ps) e = cc
+    go : (c : Bool) → eqb b slash ≡ c → together (segments t) ≡ slash ∷ t
+        → together ((if c then [] else b ∷ firstPiece t) ∷ (if c then segments t else laterPieces t)) ≡ slash ∷ b ∷ t
+    go true q e = rw (e, eqb-true b slash q)
+    go false q e = cc
 
 segments-free : (path : List ℕ) (m : ℕ) → NoSlash (getD (segments path) m [])
-unfolding segments
+unfolding segments firstPiece laterPieces
 segments-free [] zero n e = absurd (omega arith)
 segments-free [] (suc m) n e = absurd (omega arith)
-segments-free (b ∷ t) m n e = go (eqb b slash) refl (first t) (segments-free t) m n e
+segments-free (b ∷ t) m n e = go (eqb b slash) refl (segments-free t) m n e
   where
-    go : (c : Bool) → eqb b slash ≡ c → {ps : List (List ℕ)} → Some ps → ((m : ℕ) → NoSlash (getD ps m []))
-        → (m : ℕ) → NoSlash (getD (if c then [] ∷ ps else lengthened b ps) m [])
-    go true q f h zero n e = absurd (omega arith)
-    go true q f h (suc m) n e = h m n e
-    go false q (some p ps) h zero zero e = eqb-false b slash q e
-    go false q (some p ps) h zero (suc n) e = h zero n e
-    go false q (some p ps) h (suc m) n e = h (suc m) n e
+    go : (c : Bool) → eqb b slash ≡ c → ((m : ℕ) → NoSlash (getD (segments t) m []))
+        → (m : ℕ) → NoSlash (getD ((if c then [] else b ∷ firstPiece t) ∷ (if c then segments t else laterPieces t)) m [])
+    go true q h zero n e = absurd (omega arith)
+    go true q h (suc m) n e = h m n e
+    go false q h zero zero e = eqb-false b slash q e
+    go false q h zero (suc n) e = h zero n e
+    go false q h (suc m) n e = h (suc m) n e
 
 pub segments-cut : (path : List ℕ) → CutAtSlashes path (segments path)
 segments-cut path = record { whole = segments-whole path; free = segments-free path }

@@ -1,4 +1,4 @@
--- Laws of strings: where one stops and how it goes on, and what each answer of `text` says of it.
+-- Laws of strings: where one stops and how it goes on, and what each answer of `extent` says of it.
 use Prim.Native.Nat.{ℕ, zero, suc, _+_, _≤_, _<_, zero-le, suc-le-suc}
 use mathlib.Core.Path.{_≡_, refl, ap, sym, _∙_}
 use mathlib.Core.List.{List, [], _∷_}
@@ -10,9 +10,9 @@ use lib.ListN.{length, take, drop, getD, List·getD-eq-default}
 use lib.Seq.{take-all, take-take}
 use lib.Dec.{ltb, leb, eqb}
 use Rattle.format.specs.Choice.{if_then_else_}
-use Rattle.format.specs.Text.{string, ended, text, isWhole}
-use Rattle.format.specs.declared.Text.{Text}
-use Rattle.format.specs.declared.Text.the-variants.{Whole, Empty, Long, Cut}
+use Rattle.format.specs.String.{string, ended, extent, isWhole}
+use Rattle.format.specs.declared.Extent.{Extent}
+use Rattle.format.specs.declared.Extent.the-variants.{Whole, Empty, Long, Cut}
 
 -- `getD` counts a byte past the end as 0
 pub string-stops : (t : List ℕ) (i : ℕ) → getD t i 0 ≡ 0 → string (drop i t) ≡ []
@@ -77,16 +77,16 @@ pub record WholeString (limit : ℕ) (t : List ℕ) : Type 0 where
   pub within : length (string t) ≤ limit
   pub ended : length (string t) < length t
 
--- each answer of `text`, with what it says of the string
-pub data Judged (limit : ℕ) (t : List ℕ) : Text → Type 0 where
+-- each answer of `extent`, with what it says of the string
+pub data Judged (limit : ℕ) (t : List ℕ) : Extent → Type 0 where
   long : limit < length (string t) → Judged limit t Long
   cut : length (string t) ≤ limit → length t ≤ length (string t) → Judged limit t Cut
   empty : 0 < length t → length (string t) ≡ 0 → Judged limit t Empty
   whole : {n : ℕ} → n ≡ length (string t) → WholeString limit t → Judged limit t (Whole n)
 
 -- what holds of the string gives the answer
-pub judgement : (limit : ℕ) (t : List ℕ) {r : Text} → Judged limit t r → r ≡ text limit t
-unfolding text
+pub judgement : (limit : ℕ) (t : List ℕ) {r : Extent} → Judged limit t r → r ≡ extent limit t
+unfolding extent
 judgement limit t (long h) = simp (lt-ltb _ _ h)
 judgement limit t (cut h g) = simp (le-ltb _ _ h, le-leb _ _ g)
 judgement limit t (empty h e) = simp (e, le-ltb limit 0 zero-le, lt-leb _ _ h)
@@ -96,19 +96,19 @@ judgement limit t (whole e h) =
 
 -- what is answered after i bytes: at a zero byte, at one byte more than the limit, and at the end
 module _ (limit : ℕ) (t : List ℕ) (i : ℕ) (passed : Passed t i) where
-  pub text-ended : i < length t → i ≤ limit → getD t i 0 ≡ 0 → ended i ≡ text limit t
-  unfolding text
-  text-ended l h e = rw (passed-stops t i passed e, le-ltb limit i h, lt-leb (length t) i l)
+  pub extent-ended : i < length t → i ≤ limit → getD t i 0 ≡ 0 → ended i ≡ extent limit t
+  unfolding extent
+  extent-ended l h e = rw (passed-stops t i passed e, le-ltb limit i h, lt-leb (length t) i l)
 
-  pub text-long : i ≡ limit → (getD t i 0 ≡ 0 → ⊥) → Long ≡ text limit t
-  text-long e nz = judgement limit t (long (omega (arith, passed-below t i passed nz)))
+  pub extent-long : i ≡ limit → (getD t i 0 ≡ 0 → ⊥) → Long ≡ extent limit t
+  extent-long e nz = judgement limit t (long (omega (arith, passed-below t i passed nz)))
 
-  pub text-cut : i ≤ limit → length t ≤ i → Cut ≡ text limit t
-  text-cut h l = let e = passed-ends t i passed l in judgement limit t (cut (omega arith) (omega arith))
+  pub extent-cut : i ≤ limit → length t ≤ i → Cut ≡ extent limit t
+  extent-cut h l = let e = passed-ends t i passed l in judgement limit t (cut (omega arith) (omega arith))
 
 -- and the answer says what holds of it
-pub judged : (limit : ℕ) (t : List ℕ) → Judged limit t (text limit t)
-unfolding text
+pub judged : (limit : ℕ) (t : List ℕ) → Judged limit t (extent limit t)
+unfolding extent
 judged limit t = go (ltb limit (length (string t))) refl (leb (length t) (length (string t))) refl (eqb (length (string t)) 0) refl
   where
     go : (a : Bool) → ltb limit (length (string t)) ≡ a → (b : Bool) → leb (length t) (length (string t)) ≡ b → (c : Bool) → eqb (length (string t)) 0 ≡ c
@@ -118,29 +118,29 @@ judged limit t = go (ltb limit (length (string t))) refl (leb (length t) (length
     go false p false q true s = empty (omega (arith, leb-false, eqb-true)) (eqb-true _ _ s)
     go false p false q false s = whole refl (record { some = omega (arith, eqb-false); within = ltb-false _ _ p; ended = leb-false _ _ q })
 
-pub whole-length : (limit : ℕ) (t : List ℕ) (n : ℕ) → text limit t ≡ Whole n → n ≡ length (string t)
+pub whole-length : (limit : ℕ) (t : List ℕ) (n : ℕ) → extent limit t ≡ Whole n → n ≡ length (string t)
 whole-length limit t n e = go (judged limit t) e
   where
-    go : {r : Text} → Judged limit t r → r ≡ Whole n → n ≡ length (string t)
+    go : {r : Extent} → Judged limit t r → r ≡ Whole n → n ≡ length (string t)
     go (long h) q = cc
     go (cut h g) q = cc
     go (empty h g) q = cc
     go (whole g h) q = cc
 
-pub whole-is-whole : (limit : ℕ) (t : List ℕ) (n : ℕ) → text limit t ≡ Whole n → isWhole (text limit t) ≡ true
+pub whole-is-whole : (limit : ℕ) (t : List ℕ) (n : ℕ) → extent limit t ≡ Whole n → isWhole (extent limit t) ≡ true
 unfolding isWhole
 whole-is-whole limit t n e = rw e
 
-pub whole-string : (limit : ℕ) (t : List ℕ) → isWhole (text limit t) ≡ true → WholeString limit t
+pub whole-string : (limit : ℕ) (t : List ℕ) → isWhole (extent limit t) ≡ true → WholeString limit t
 unfolding isWhole
 whole-string limit t e = go (judged limit t) e
   where
-    go : {r : Text} → Judged limit t r → isWhole r ≡ true → WholeString limit t
+    go : {r : Extent} → Judged limit t r → isWhole r ≡ true → WholeString limit t
     go (long h) q = absurd (false≢true q)
     go (cut h g) q = absurd (false≢true q)
     go (empty h g) q = absurd (false≢true q)
     go (whole g h) q = h
 
 -- so as many bytes as the limit allows are all of it
-pub whole-within : (limit : ℕ) (t : List ℕ) → isWhole (text limit t) ≡ true → take limit (string t) ≡ string t
+pub whole-within : (limit : ℕ) (t : List ℕ) → isWhole (extent limit t) ≡ true → take limit (string t) ≡ string t
 whole-within limit t e = take-all limit (string t) (whole-string limit t e .within)

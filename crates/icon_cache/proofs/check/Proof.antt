@@ -1,6 +1,6 @@
 -- `icon_cache::check` meets its contract: a broken rule of the header, then one of a path, is the
 -- first of the rules 1 to 6 and 16 that is broken (`tables-header`, `tables-paths`), and without
--- one the buckets decide (`check-sound`).
+-- one the buckets decide (`check-goes-on`).
 use Prim.Native.Nat.{ℕ}
 use mathlib.Core.Path.{_≡_, sym, _∙_}
 use mathlib.Core.List.{List}
@@ -12,7 +12,7 @@ use Rattle.format.specs.Demand.{CheckDemand}
 use Rattle.format.specs.declared.CheckAnswer.{CheckAnswer}
 use Rattle.format.specs.Laws.Faults.{same-number}
 use Rattle.format.specs.Laws.Rules.{tables-header, tables-paths}
-use Rattle.format.specs.Laws.Buckets.{check-sound, check-refuses}
+use Rattle.format.specs.Laws.Buckets.{check-goes-on, check-refuses}
 use Rattle.format.specs.Laws.Demand.{check-demand}
 use Rattle.icon_cache.proofs.check.Statement.{statement}
 use Rattle.icon_cache.proofs.check.Tie as tie
@@ -40,8 +40,8 @@ returns-3 : tie.Need-returns-3
 returns-3 c =
     let judged = c .before .before .before in
     let kept = rw (judged .paths .ensures) at (c .before .if2 .left) in
-    let sound = same-number (tables-paths _ (header-kept (judged .before .before))) ∙ kept in
-    meets _ (c .check-buckets .ensures ∙ sym (check-sound _ sound))
+    let tables-kept = same-number (tables-paths _ (header-kept (judged .before .before))) ∙ kept in
+    meets _ (c .check-buckets .ensures ∙ sym (check-goes-on _ tables-kept))
 
 pub check-spec : {M : Type 1} → statement M
 check-spec =

@@ -6,7 +6,7 @@ use borrow.Author.Needs.{needs}
 use denote.Ref.{now}
 use Rattle.format.specs.Header.{headerFault}
 use Rattle.format.specs.Laws.Directory.{directory-header, directory-beyond, directory-path, part-refused, part-judged}
-use Rattle.tables.specs.Laws.{right-directories}
+use Rattle.tables.specs.Laws.{same-directories}
 use Rattle.icon_cache.proofs.directory_part.Statement.{statement}
 use Rattle.icon_cache.proofs.directory_part.Tie as tie
 
@@ -22,16 +22,16 @@ returns c =
 returns-2 : tie.Need-returns-2
 returns-2 c =
     let tabled = c .before .before .before in
-    let beyond = directory-beyond _ _ (tabled .read .ensures .header) (rw (right-directories (tabled .read .ensures)) at (c .before .if2 .taken)) in
+    let beyond = directory-beyond _ _ (tabled .read .ensures .header) (rw (same-directories (tabled .read .ensures)) at (c .before .if2 .taken)) in
     c .no-part2 .ensures ∙ sym (part-refused _ _ beyond (λ z. omega arith))
 
 path-requires : tie.Need-path-requires
-path-requires c κs = let right = c .before .before .read .ensures in (right, rw (right-directories right) at (c .if2 .left))
+path-requires c κs = let read = c .before .before .read .ensures in (read, rw (same-directories read) at (c .if2 .left))
 
 returns-3 : tie.Need-returns-3
 returns-3 c =
     let tabled = c .before .before .before .before in
-    let judged = directory-path _ _ (tabled .read .ensures .header) (rw (right-directories (tabled .read .ensures)) at (c .before .before .if2 .left)) in
+    let judged = directory-path _ _ (tabled .read .ensures .header) (rw (same-directories (tabled .read .ensures)) at (c .before .before .if2 .left)) in
     rw (c .before .path .ensures) (sym (part-judged _ _ judged))
 
 pub directory-part-spec : {M : Type 1} → statement M
@@ -42,7 +42,9 @@ directory-part-spec =
     (λ c κs. search needs)
     returns
     (λ c κs. header-kept c)
+    (λ c. search needs)
     (λ c κs. search needs)
     returns-2
+    (λ c. omega arith)
     path-requires
     returns-3)

@@ -8,23 +8,23 @@ use native.Mathlib.Omega.{arith}
 use borrow.Author.Needs.{needs}
 use borrow.Author.Tests.{not-true, not-false}
 use denote.Ref.{now}
-use Rattle.format.specs.Text.{allowed}
+use Rattle.format.specs.String.{allowed}
 use Rattle.format.specs.Header.{headerFault}
 use Rattle.format.specs.Record.{bucketOf}
 use Rattle.format.specs.Laws.Faults.{same-number}
 use Rattle.format.specs.Laws.Names.{allowed-short}
 use Rattle.format.specs.Laws.Hashes.{allowed-hash, hash-bucket}
 use Rattle.format.specs.Laws.Lookup.{query-unallowed, query-allowed, find-refuses, find-searches}
-use Rattle.tables.specs.Laws.{right-header, right-buckets}
+use Rattle.tables.specs.Laws.{valid-header, same-buckets}
 use Rattle.icon_cache.proofs.find.Statement.{statement}
 use Rattle.icon_cache.proofs.find.Tie as tie
 
--- the name may be asked for, and the header is sound
+-- the name may be asked for, and the header breaks no rule
 may-be : (c : tie.Else1) → allowed (now (c .before .before .before .before .before .args .name)) ≡ true
 may-be c = sym (c .before .before .asked .ensures .0) ∙ not-false _ (c .if1 .left)
 
-sound : (c : tie.Else2) → headerFault (now (c .before .before .before .before .before .before .before .before .args .cache)) .number ≡ 0
-sound c = same-number (sym (c .before .before .header .ensures)) ∙ c .if2 .left
+header-kept : (c : tie.Else2) → headerFault (now (c .before .before .before .before .before .before .before .before .args .cache)) .number ≡ 0
+header-kept c = same-number (sym (c .before .before .header .ensures)) ∙ c .if2 .left
 
 -- the bucket searched is the name's
 bucket-is : (c : tie.After-struct-known4)
@@ -33,7 +33,7 @@ bucket-is : (c : tie.After-struct-known4)
     may .before .before .asked .result .hash % c .before .before .read .result .buckets ≡ bucketOf (now (a .cache)) (now (a .name))
 bucket-is c =
     let may = c .before .before .before .before .before .before in
-    hash-bucket _ _ (may .before .before .asked .ensures .1 ∙ allowed-hash _ (may-be may)) (right-buckets (c .before .before .read .ensures))
+    hash-bucket _ _ (may .before .before .asked .ensures .1 ∙ allowed-hash _ (may-be may)) (same-buckets (c .before .before .read .ensures))
 
 returns : tie.Need-returns
 returns c =
@@ -49,14 +49,14 @@ returns-2 c =
 search-requires : tie.Need-search-requires
 search-requires c κs =
     let read = c .before .before in
-    let below = mod-lt _ (right-header (read .read .ensures) .buckets-some) in
+    let below = mod-lt _ (valid-header (read .read .ensures) .buckets-some) in
     (read .read .ensures, (rw (bucket-is c) below, (allowed-short _ (may-be (read .before .before .before .before)), sym (bucket-is c))))
 
 returns-3 : tie.Need-returns-3
 returns-3 c =
     let known = c .before in
     let kept = known .before .before .before in
-    let asks = same-number (query-allowed _ _ (may-be (kept .before .before .before))) ∙ sound kept in
+    let asks = same-number (query-allowed _ _ (may-be (kept .before .before .before))) ∙ header-kept kept in
     c .search .ensures ∙ rw (bucket-is known) (sym (find-searches _ _ asks))
 
 pub find-spec : {M : Type 1} → statement M
@@ -69,8 +69,7 @@ find-spec =
     (λ c κs. search needs)
     (λ c κs. search needs)
     returns-2
-    (λ c κs. sound c)
-    (λ c. search needs)
-    (λ c. let right = c .before .before .read .ensures in rw (right-buckets right) (right-header right .buckets-some))
+    (λ c κs. header-kept c)
+    (λ c. let read = c .before .before .read .ensures in rw (same-buckets read) (valid-header read .buckets-some))
     search-requires
     returns-3)

@@ -1,5 +1,5 @@
 -- `icon_cache::with_images` meets its contract: the room decides between the two answers
--- (`met-short`, `met-enough`), and with enough of it what `write_images` leaves in the words is
+-- (`found-short`, `found-enough`), and with enough of it what `write_images` leaves in the words is
 -- what the definition asks for.
 use mathlib.Core.Path.{_≡_, refl, ap, sym, _∙_}
 use native.Mathlib.Omega.{arith}
@@ -8,19 +8,19 @@ use denote.Ref.{now}
 use Rattle.format.specs.Number.{be}
 use Rattle.format.specs.Record.{imagesAt, images}
 use Rattle.format.specs.Call.{answerWords}
-use Rattle.format.specs.Laws.Lookup.{met-short, met-enough}
+use Rattle.format.specs.Laws.Lookup.{found-short, found-enough}
 use Rattle.icon_cache.proofs.with_images.Statement.{statement}
 use Rattle.icon_cache.proofs.with_images.Tie as tie
 
-list-at : (c : tie.After-u32-at) → let a = c .before .before .before .args in c .u32-at .result ≡ imagesAt (now (a .cache)) (a .met)
+list-at : (c : tie.After-u32-at) → let a = c .before .before .before .args in c .u32-at .result ≡ imagesAt (now (a .cache)) (a .«record»)
 list-at c = c .u32-at .ensures
 
-images-are : (c : tie.After-u32-at2) → let a = c .before .before .before .before .args in c .u32-at2 .result ≡ images (now (a .cache)) (a .met)
+images-are : (c : tie.After-u32-at2) → let a = c .before .before .before .before .args in c .u32-at2 .result ≡ images (now (a .cache)) (a .«record»)
 images-are c = c .u32-at2 .ensures ∙ ap (be 4 (now (c .before .before .before .before .args .cache))) (list-at (c .before))
 
 returns : tie.Need-returns
 unfolding answerWords
-returns c = (rw (images-are (c .before), list-at (c .before .before)) (sym (met-short _ _ _ _ (rw (← (images-are (c .before))) (c .if1 .taken)))), refl)
+returns c = (rw (images-are (c .before), list-at (c .before .before)) (sym (found-short _ _ _ _ (rw (← (images-are (c .before))) (c .if1 .taken)))), refl)
 
 write-images-requires : tie.Need-write-images-requires
 write-images-requires c κs = (omega (arith, images-are (c .before .before), list-at (c .before .before .before), c .before .before .before .before .before .before .pre .1), omega (arith, c .before .if1 .left))
@@ -30,7 +30,7 @@ unfolding answerWords
 returns-2 c =
     let room = c .before .before .before .before in
     let list = room .before in (
-      rw (images-are list) (sym (met-enough _ _ _ _ (rw (← (images-are list)) (room .if1 .left)))),
+      rw (images-are list) (sym (found-enough _ _ _ _ (rw (← (images-are list)) (room .if1 .left)))),
       c .before .before .write-images .ensures ∙ rw (list-at (list .before)),
     )
 

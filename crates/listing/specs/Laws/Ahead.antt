@@ -11,7 +11,7 @@ use Rattle.format.specs.Laws.Header.{header-number}
 use Rattle.format.specs.Laws.Links.{broken-number}
 use Rattle.format.specs.Laws.Along.{after-is, holds-chain, breaks-chain, keeps-chain}
 use Rattle.format.specs.Laws.Course.{Course, ends, breaks, goes-on, course}
-use Rattle.listing.specs.Listing.{position, handsBack, stays, positionRight, positionFault, onward, step}
+use Rattle.listing.specs.Listing.{position, handsBack, stays, validPosition, positionFault, onward, step}
 use Rattle.listing.specs.Paging.{GoesOn, here, on, HasRecord, StepAnswers}
 use Rattle.listing.specs.Laws.Steps.{onward-ends, onward-breaks, onward-gives, position-tells, step-refuses, step-goes}
 use Rattle.listing.specs.declared.Position.{Position}
@@ -34,9 +34,9 @@ module _ {s : List ℕ} where
       rw more (onward-ends s p (buckets s - suc (q .bucket)) (q .bucket) (q .count) (after-is (holds-chain s (q .bucket) c h))) ∙ onward-goes p g l
 
   -- the answer where the step goes on to a bucket r
-  module _ {q r : Position} (right : positionFault s q .number ≡ 0) (g : GoesOn s q r) where
+  module _ {q r : Position} (valid : positionFault s q .number ≡ 0) (g : GoesOn s q r) where
     step-on : r .bucket ≤ buckets s → step s q ≡ onward (buckets s - r .bucket) s q (r .bucket) (r .count)
-    step-on l = step-goes s q right ∙ onward-goes q g l
+    step-on l = step-goes s q valid ∙ onward-goes q g l
 
     step-to : r .bucket < buckets s → step s q ≡ onward (suc (buckets s - suc (r .bucket))) s q (r .bucket) (r .count)
     step-to l =
@@ -58,7 +58,7 @@ module _ {s : List ℕ} where
 pub step-answers : (s : List ℕ) (q : Position) → StepAnswers s q
 step-answers s q = record {
   refuses-position = λ x p e. step-refuses s q e (λ z. omega arith);
-  goes = λ right. record { gives = gives right; refuses-record = λ g l c b. refuses-record right g l c b; done = done right };
+  goes = λ valid. record { gives = gives valid; refuses-record = λ g l c b. refuses-record valid g l c b; done = done valid };
 }
 
 module _ {s : List ℕ} {q : Position} where
@@ -88,15 +88,15 @@ stepNumbers = 26 ∷ 28 ∷ headerNumbers ++ linkNumbers
 
 position-number : (s : List ℕ) (q : Position) → OneOf stepNumbers (positionFault s q .number)
 unfolding positionFault
-position-number s q = orElse-one _ _ (widened refl (header-number s)) (unless-one (positionRight s q) 26 0 refl)
+position-number s q = orElse-one _ _ (widened refl (header-number s)) (unless-one (validPosition s q) 26 0 refl)
 
 pub step-answer-number : (s : List ℕ) (q : Position) → OneOf stepNumbers (step s q .number)
 step-answer-number s q = go (positionFault s q .number) refl
   where
     onward-number : positionFault s q .number ≡ 0 → Ahead s q → OneOf stepNumbers (step s q .number)
-    onward-number right (record-ahead g h) = rw (gives right g h) (record { one = refl })
-    onward-number right (break-ahead {n = n} g l c b) = rw (refuses-record right g {n = n} l c b) (widened refl (broken-number b))
-    onward-number right (nothing-ahead g e) = rw (done right g e) (record { one = refl })
+    onward-number valid (record-ahead g h) = rw (gives valid g h) (record { one = refl })
+    onward-number valid (break-ahead {n = n} g l c b) = rw (refuses-record valid g {n = n} l c b) (widened refl (broken-number b))
+    onward-number valid (nothing-ahead g e) = rw (done valid g e) (record { one = refl })
 
     go : (n : ℕ) → positionFault s q .number ≡ n → OneOf stepNumbers (step s q .number)
     go zero e = onward-number e (ahead s q (omega (arith, position-tells s q e)))

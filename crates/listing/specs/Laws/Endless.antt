@@ -14,13 +14,13 @@ use Rattle.format.specs.Laws.Links.{round}
 use Rattle.format.specs.Laws.Apart.{apart-none, repeats}
 use Rattle.format.specs.Laws.Verdict.{turns, turns-keep}
 use Rattle.listing.specs.Paging.{GoesOn, here, on, HasRecord, RecordAnswers, largest, AtTheLargestCount}
-use Rattle.listing.specs.Laws.Steps.{position-right, step-number, step-next}
+use Rattle.listing.specs.Laws.Steps.{position-valid, step-number, step-next}
 use Rattle.listing.specs.Laws.Ahead.{Ahead, record-ahead, break-ahead, nothing-ahead, ahead, goes-up, step-answers}
 use Rattle.listing.specs.declared.Position.{Position}
 
 module _ (s : List ℕ) (header : headerFault s .number ≡ 0) (k : ℕ) (l : k < buckets s) where
   answers : RecordAnswers s (largest s k)
-  answers = step-answers s (largest s k) .goes (same-number (position-right s (largest s k) header l (le-refl (mostRecords s))))
+  answers = step-answers s (largest s k) .goes (same-number (position-valid s (largest s k) header l (le-refl (mostRecords s))))
 
   -- as many records that keep the rules as there cannot be
   turns-on : KeepsBelow s k (suc (mostRecords s)) → Turns s k

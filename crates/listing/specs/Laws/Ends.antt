@@ -11,7 +11,7 @@ use lib.ListN.{length}
 use Rattle.format.specs.Chain.{mostRecords}
 use Rattle.format.specs.Words.{link, KeepsBelow}
 use Rattle.format.specs.Laws.Below.{below-suc}
-use Rattle.format.specs.Laws.Header.{header-right}
+use Rattle.format.specs.Laws.Header.{header-valid}
 use Rattle.format.specs.Laws.Links.{keeps-le}
 use Rattle.format.specs.Laws.Apart.{Apart, visits-length, apart-none, apart-length, apart-chain}
 use Rattle.listing.specs.Listing.{position, handsBack, stays, positionFault, step}
@@ -32,7 +32,7 @@ outcome s q = go (positionFault s q .number) refl
     goes : positionFault s q .number ≡ 0 → Ahead s q → Outcome s q
     goes e (record-ahead g a) =
         let (header, bucket, count) = position-tells s q e in
-        gives (header-right s header .header-inside) count g a (step-answers s q .goes e .gives g a)
+        gives (header-valid s header .header-inside) count g a (step-answers s q .goes e .gives g a)
     goes e (break-ahead g l c b) = still (b .some) (step-answers s q .goes e .refuses-record g l c b)
     goes e (nothing-ahead g n) = still {x = 28} (omega arith) (step-answers s q .goes e .done g n)
 

@@ -10,14 +10,14 @@ use Rattle.format.specs.Header.{buckets}
 use Rattle.format.specs.Chain.{mostRecords, allRecords}
 use Rattle.format.specs.Words.{link, Holds, OnChain, Accepted, Lengths, sum}
 use Rattle.format.specs.Laws.Faults.{same-number}
-use Rattle.format.specs.Laws.Header.{header-right}
-use Rattle.format.specs.Laws.Rules.{tables-right}
+use Rattle.format.specs.Laws.Header.{header-valid}
+use Rattle.format.specs.Laws.Rules.{tables-keep-header}
 use Rattle.format.specs.Laws.Links.{keeps-le, unbroken, on-chain, chain-on}
 use Rattle.format.specs.Laws.Buckets.{total}
 use Rattle.format.specs.Laws.Demand.{demand3}
 use Rattle.listing.specs.Listing.{start, stays, positionFault, step}
 use Rattle.listing.specs.Paging.{GoesOn, here, on, RecordAnswers, reached, stepAt, EachOnce, HandsBack, Lists}
-use Rattle.listing.specs.Laws.Steps.{position-right, step-next}
+use Rattle.listing.specs.Laws.Steps.{position-valid, step-next}
 use Rattle.listing.specs.Laws.Ahead.{Ahead, record-ahead, break-ahead, nothing-ahead, ahead, goes-up, step-answers}
 use Rattle.format.specs.Laws.Order.{records-length, sum-before, record-at, located}
 use Rattle.listing.specs.declared.Position.{Position}
@@ -38,11 +38,11 @@ abbrev Located : List ℕ → (ℕ → ℕ) → ℕ → Type 0
 Located s f n = (j m : ℕ) × (j < buckets s) × (n ≡ sum f j + m) × OnChain s j m (getD (allRecords s) n 0)
 
 module _ {s : List ℕ} (acc : Accepted s) (f : ℕ → ℕ) (h : Lengths s (buckets s) f) where
-  -- a position of the walk is right
-  stands-right : {q : Position} {n : ℕ} → Stands s f q n → positionFault s q .number ≡ 0
-  stands-right {q} t =
+  -- a position of the walk is valid
+  stands-valid : {q : Position} {n : ℕ} → Stands s f q n → positionFault s q .number ≡ 0
+  stands-valid {q} t =
       let few : q .count ≤ mostRecords s = omega (arith, t .count, sum-before f (buckets s) (t .bucket), total f h) in
-      same-number (position-right s q (tables-right s (acc .sound)) (t .bucket) few)
+      same-number (position-valid s q (tables-keep-header s (acc .tables-kept)) (t .bucket) few)
 
   -- where a step goes on to, as many records are passed
   same-passed : {q r : Position} → GoesOn s q r → r .bucket ≤ buckets s → q .count ≤ f (q .bucket)
@@ -58,7 +58,7 @@ module _ {s : List ℕ} (acc : Accepted s) (f : ℕ → ℕ) (h : Lengths s (buc
   next {q} {n} t = go (ahead s q (omega (arith, t .bucket)))
     where
       answers : RecordAnswers s q
-      answers = step-answers s q .goes (stands-right t)
+      answers = step-answers s q .goes (stands-valid t)
 
       go : Ahead s q → Next s f q n
       go (record-ahead {r = r} g a) =
@@ -94,7 +94,7 @@ module _ {s : List ℕ} (acc : Accepted s) (f : ℕ → ℕ) (h : Lengths s (buc
 
   begins : Stands s f start 0
   unfolding sum
-  begins = record { bucket = header-right s (tables-right s (acc .sound)) .buckets-some; count = omega arith; passed = refl }
+  begins = record { bucket = header-valid s (tables-keep-header s (acc .tables-kept)) .buckets-some; count = omega arith; passed = refl }
 
   pub lists-all : Lists s (allRecords s)
   lists-all = record {

@@ -4,34 +4,34 @@ use Prim.Native.Nat.{ℕ, zero, suc, _+_, _≤_}
 use mathlib.Core.Path.{_≡_}
 use mathlib.Core.List.{List}
 use native.Mathlib.Omega.{arith}
-use lib.ListN.{length}
-use Rattle.format.specs.Chain.{chainOf, itself}
-use Rattle.format.specs.declared.Link.the-variants.{End, Broken, Record}
+use Rattle.format.specs.Chain.{chainOf, openedOn}
+use Rattle.format.specs.declared.Next.the-variants.{End, Broken, Record}
 use Rattle.format.specs.Laws.Follow.{at-most-one}
 use Rattle.format.specs.Laws.Along.{counted, after-is, holds-chain, breaks-chain, keeps-chain}
 use Rattle.format.specs.Laws.Course.{Course, ends, breaks, goes-on, course}
 use Rattle.listing.specs.Paging.{onwardOpens, stepOpens}
 use Rattle.listing.specs.declared.Position.{Position}
 
-module _ (s : List ℕ) (n k c : ℕ) {m : ℕ} (count : length (chainOf s k c .records) ≡ m) where
-  opens-ends : chainOf s k c .after ≡ End → onwardOpens (suc n) s k c ≡ m + onwardOpens n s (suc k) 0
+-- what a bucket adds after its own chain
+module _ (s : List ℕ) (n k c : ℕ) where
+  opens-ends : chainOf s k c .after ≡ End → onwardOpens (suc n) s k c ≡ openedOn (chainOf s k c) + onwardOpens n s (suc k) 0
   unfolding onwardOpens
-  opens-ends e = rw (onwardOpens, e, count)
+  opens-ends e = rw (onwardOpens, e)
 
-  opens-breaks : {x p : ℕ} → chainOf s k c .after ≡ Broken x p → onwardOpens (suc n) s k c ≡ m + itself x
+  opens-breaks : {x p : ℕ} → chainOf s k c .after ≡ Broken x p → onwardOpens (suc n) s k c ≡ openedOn (chainOf s k c) + 0
   unfolding onwardOpens
-  opens-breaks e = rw (onwardOpens, e, count)
+  opens-breaks e = rw (onwardOpens, e)
 
-  opens-gives : {r : ℕ} → chainOf s k c .after ≡ Record r → onwardOpens (suc n) s k c ≡ m + 1
+  opens-gives : {r : ℕ} → chainOf s k c .after ≡ Record r → onwardOpens (suc n) s k c ≡ openedOn (chainOf s k c) + 0
   unfolding onwardOpens
-  opens-gives e = rw (onwardOpens, e, count)
+  opens-gives e = rw (onwardOpens, e)
 
 module _ (s : List ℕ) where
   one-bucket : (n k c : ℕ) → Course s k c → onwardOpens n s (suc k) 0 ≤ 1 → onwardOpens (suc n) s k c ≤ suc c
-  one-bucket n k c (ends {n = m} l h) rest = let w = holds-chain s k l h in omega (arith, opens-ends s n k c (counted s k m w) (after-is w))
+  one-bucket n k c (ends {n = m} l h) rest = let w = holds-chain s k l h in omega (arith, opens-ends s n k c (after-is w), counted s k m w)
   one-bucket n k c (breaks {n = m} {x = x} l b) rest =
-      let w = breaks-chain s k l b in omega (arith, opens-breaks s n k c (counted s k m w) (after-is w), at-most-one x)
-  one-bucket n k c (goes-on keeps) rest = let w = keeps-chain s k keeps in omega (arith, opens-gives s n k c (counted s k c w) (after-is w))
+      let w = breaks-chain s k l b in omega (arith, opens-breaks s n k c (after-is w), counted s k m w, at-most-one x)
+  one-bucket n k c (goes-on keeps) rest = let w = keeps-chain s k keeps in omega (arith, opens-gives s n k c (after-is w), counted s k c w)
 
   onward-opens : (n k c : ℕ) → onwardOpens n s k c ≤ suc c
   unfolding onwardOpens

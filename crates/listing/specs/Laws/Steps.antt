@@ -8,7 +8,7 @@ use Rattle.format.specs.Fault.{fault, noFault}
 use Rattle.format.specs.Header.{headerFault, buckets}
 use Rattle.format.specs.Chain.{chainOf, mostRecords}
 use Rattle.format.specs.declared.Fault.{Fault}
-use Rattle.format.specs.declared.Link.the-variants.{End, Broken, Record}
+use Rattle.format.specs.declared.Next.the-variants.{End, Broken, Record}
 use Rattle.format.specs.Laws.Faults.{orElse-first, orElse-next, orElse-none, unless-none, kept-takes, broken-takes}
 use Rattle.listing.specs.Listing.{position, handsBack, stays, positionFault, onward, step}
 use Rattle.listing.specs.declared.Position.{Position}
@@ -39,7 +39,7 @@ module _ (s : List ℕ) (q : Position) where
   unfolding positionFault
   position-header h = orElse-first _ _ h
 
-  -- under a sound header
+  -- where the header breaks no rule
   module _ (h : headerFault s .number ≡ 0) where
     pub position-no-bucket : buckets s ≤ q .bucket → positionFault s q ≡ fault 26 0
     unfolding positionFault
@@ -49,11 +49,11 @@ module _ (s : List ℕ) (q : Position) where
     unfolding positionFault
     position-counts-too-far l g = orElse-next _ _ h ∙ rw (lt-ltb (q .bucket) (buckets s) l, lt-leb (q .count) (mostRecords s) g)
 
-    pub position-right : q .bucket < buckets s → q .count ≤ mostRecords s → positionFault s q ≡ noFault
+    pub position-valid : q .bucket < buckets s → q .count ≤ mostRecords s → positionFault s q ≡ noFault
     unfolding positionFault
-    position-right l g = orElse-next _ _ h ∙ rw (lt-ltb (q .bucket) (buckets s) l, le-leb (q .count) (mostRecords s) g)
+    position-valid l g = orElse-next _ _ h ∙ rw (lt-ltb (q .bucket) (buckets s) l, le-leb (q .count) (mostRecords s) g)
 
-  -- what a position tells that is right
+  -- what a position tells that is valid
   pub position-tells : positionFault s q .number ≡ 0 → (headerFault s .number ≡ 0) × (q .bucket < buckets s) × (q .count ≤ mostRecords s)
   unfolding positionFault
   position-tells e =
@@ -61,9 +61,9 @@ module _ (s : List ℕ) (q : Position) where
       let both = and-eq-true-iff _ _ .0 (unless-none _ _ _ (kept .1)) in
       (kept .0, ltb-true _ _ (both .0), leb-true _ _ (both .1))
 
-  pub step-refuses : {f : Fault} → positionFault s q ≡ f → (f .number ≡ 0 → ⊥) → step s q ≡ stays (f .number) (f .place) q
+  pub step-refuses : {v : Fault} → positionFault s q ≡ v → (v .number ≡ 0 → ⊥) → step s q ≡ stays (v .number) (v .place) q
   unfolding step
-  step-refuses {f} e some = rw e (broken-takes f _ _ some)
+  step-refuses {v} e some = rw e (broken-takes v _ _ some)
 
   pub step-goes : positionFault s q .number ≡ 0 → step s q ≡ onward (buckets s - q .bucket) s q (q .bucket) (q .count)
   unfolding step

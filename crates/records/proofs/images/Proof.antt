@@ -9,31 +9,31 @@ use borrow.Author.Tests.{not-true, not-false}
 use lib.ListN.{length}
 use Rattle.format.specs.Record.{imagesFault}
 use Rattle.format.specs.Laws.Images.{images-end, images-stop, images-go-on}
-use Rattle.records.specs.RightWords.{rightWords}
+use Rattle.records.specs.ValidWords.{validWords}
 use Rattle.records.proofs.images.Statement.{statement}
 use Rattle.records.proofs.images.Tie as tie
 
 abbrev Inv-loop : tie.InvT-loop
-Inv-loop cache n m at right left₀ here₀ left here = (here + 8 * left ≤ length cache) × (imagesFault left cache here ≡ imagesFault m cache at)
+Inv-loop cache n m at valid left₀ here₀ left here = (here + 8 * left ≤ length cache) × (imagesFault left cache here ≡ imagesFault m cache at)
 
 abbrev μ-loop : tie.MeasureT-loop
-μ-loop cache n m at right left₀ here₀ left here = left
+μ-loop cache n m at valid left₀ here₀ left here = left
 
-image-right-requires : tie.Need-image-right-requires Inv-loop μ-loop
-image-right-requires c κs =
+valid-image-requires : tie.Need-valid-image-requires Inv-loop μ-loop
+valid-image-requires c κs =
     let words = c .before .before in
     let pre = words .before .before .pre in
-    ((omega (arith, pre), words .right-words .ensures ∙ ap rightWords (pre .1)), omega arith)
+    ((omega (arith, pre), words .valid-words .ensures ∙ ap validWords (pre .1)), omega arith)
 
 returns : tie.Need-returns Inv-loop μ-loop
 returns c =
     let l = c .before .before .before in
-    sym (images-stop _ _ _ (l .loop .left - 1) (omega arith) (sym (c .before .image-right .ensures) ∙ not-true _ (c .if1 .taken))) ∙ l .loop .inv .1
+    sym (images-stop _ _ _ (l .loop .left - 1) (omega arith) (sym (c .before .valid-image .ensures) ∙ not-true _ (c .if1 .taken))) ∙ l .loop .inv .1
 
 loop-again : tie.Need-loop-again Inv-loop μ-loop
 loop-again c =
     let l = c .before .before .before in
-    (omega arith, sym (images-go-on _ _ _ (l .loop .left - 1) (omega arith) (sym (c .before .image-right .ensures) ∙ not-false _ (c .if1 .left))) ∙ l .loop .inv .1)
+    (omega arith, sym (images-go-on _ _ _ (l .loop .left - 1) (omega arith) (sym (c .before .valid-image .ensures) ∙ not-false _ (c .if1 .left))) ∙ l .loop .inv .1)
 
 pub images-spec : {M : Type 1} → statement M
 images-spec =
@@ -43,7 +43,7 @@ images-spec =
     μ-loop
     (λ c κs. search needs)
     (λ c. (omega arith, refl))
-    image-right-requires
+    valid-image-requires
     returns
     (λ c. omega arith)
     (λ c. omega arith)

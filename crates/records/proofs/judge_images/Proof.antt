@@ -10,23 +10,23 @@ use borrow.Author.Tests.{not-true, not-false}
 use lib.ListN.{length}
 use denote.Ref.{now}
 use Rattle.format.specs.Number.{be}
-use Rattle.format.specs.Record.{imagesAt, listRight}
-use Rattle.format.specs.Laws.Header.{header-right}
+use Rattle.format.specs.Record.{imagesAt, validImageList}
+use Rattle.format.specs.Laws.Header.{header-valid}
 use Rattle.format.specs.Laws.Reads.{list-ends}
 use Rattle.format.specs.Laws.Records.{list-broken, list-kept}
-use Rattle.tables.specs.Laws.{right-directories}
+use Rattle.tables.specs.Laws.{same-directories}
 use Rattle.records.proofs.judge_images.Statement.{statement}
 use Rattle.records.proofs.judge_images.Tie as tie
 
-listed : (c : tie.After-list-right)
-    → let a = c .before .before .before .args in c .list-right .result ≡ listRight (now (a .cache)) (imagesAt (now (a .cache)) (a .offset))
-listed c = c .list-right .ensures ∙ rw (c .before .u32-at .ensures)
+listed : (c : tie.After-valid-image-list)
+    → let a = c .before .before .before .args in c .valid-image-list .result ≡ validImageList (now (a .cache)) (imagesAt (now (a .cache)) (a .«record»))
+listed c = c .valid-image-list .ensures ∙ rw (c .before .u32-at .ensures)
 
 ends-inside : (c : tie.Else1)
     → let s = now (c .before .before .before .before .args .cache) in
     let at = c .before .before .u32-at .result in
     at + 4 + 8 * be 4 s at ≤ length s
-ends-inside c = list-ends _ _ 8 (and-eq-true-iff _ _ .0 (sym (c .before .list-right .ensures) ∙ not-false _ (c .if1 .left)) .0)
+ends-inside c = list-ends _ _ 8 (and-eq-true-iff _ _ .0 (sym (c .before .valid-image-list .ensures) ∙ not-false _ (c .if1 .left)) .0)
 
 returns : tie.Need-returns
 returns c = sym (list-broken _ _ (sym (listed (c .before)) ∙ not-true _ (c .if1 .taken)))
@@ -37,17 +37,17 @@ u32-at-requires-2 c κs = omega (arith, ends-inside c)
 images-requires : tie.Need-images-requires
 images-requires c κs =
     let start = c .before .before .before .before .before in
-    let count = right-directories (start .pre .0) in (
-      omega (arith, count, header-right _ (start .pre .0 .header) .directories-few),
+    let count = same-directories (start .pre .0) in (
+      omega (arith, count, header-valid _ (start .pre .0 .header) .directories-few),
       count,
       omega (arith, ends-inside (c .before), c .u32-at2 .ensures),
     )
 
 returns-2 : tie.Need-returns-2
 returns-2 c =
-    let right = c .before .before in
-    c .images .ensures ∙ rw (c .before .u32-at2 .ensures, right .before .before .u32-at .ensures)
-    (sym (list-kept _ _ (sym (listed (right .before)) ∙ not-false _ (right .if1 .left))))
+    let valid = c .before .before in
+    c .images .ensures ∙ rw (c .before .u32-at2 .ensures, valid .before .before .u32-at .ensures)
+    (sym (list-kept _ _ (sym (listed (valid .before)) ∙ not-false _ (valid .if1 .left))))
 
 pub judge-images-spec : {M : Type 1} → statement M
 judge-images-spec =
@@ -60,7 +60,6 @@ judge-images-spec =
     (λ c. search needs)
     returns
     u32-at-requires-2
-    (λ c. search needs)
     (λ c. search needs)
     images-requires
     returns-2)

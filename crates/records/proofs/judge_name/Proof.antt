@@ -8,15 +8,15 @@ use mathlib.Core.Bool.{true}
 use borrow.Author.Needs.{needs}
 use lib.ListN.{take}
 use denote.Ref.{now}
-use Rattle.format.specs.Text.{string, text, isWhole, hash}
+use Rattle.format.specs.String.{string, extent, isWhole, hash}
 use Rattle.format.specs.Header.{buckets}
-use Rattle.format.specs.Record.{nameOf, bucketOf, nameRight}
+use Rattle.format.specs.Record.{nameOf, bucketOf, validName}
 use Rattle.format.specs.Laws.Strings.{whole-within}
 use Rattle.format.specs.Laws.Hashes.{hash-bucket}
-use Rattle.format.specs.Laws.Header.{header-right}
+use Rattle.format.specs.Laws.Header.{header-valid}
 use Rattle.format.specs.Laws.Records.{name-unread, name-foreign, name-home}
-use Rattle.text.proofs.Tags.{tag-whole, tag-not-whole}
-use Rattle.tables.specs.Laws.{right-buckets}
+use Rattle.strings.proofs.Tags.{tag-whole, tag-not-whole}
+use Rattle.tables.specs.Laws.{same-buckets}
 use Rattle.records.proofs.judge_name.Statement.{statement}
 use Rattle.records.proofs.judge_name.Tie as tie
 
@@ -29,27 +29,27 @@ abbrev start-of-all : tie.After-struct-known2 → tie.Start
 start-of-all c = start (c .before .before .before .before)
 
 counted : (c : tie.Start) → c .args .t .buckets ≡ buckets (now (c .args .cache))
-counted c = right-buckets (c .pre .0)
+counted c = same-buckets (c .pre .0)
 
 named : (c : tie.After-read-name)
-    → let a = start c .args in isWhole (c .read-name .result .text) ≡ nameRight (now (a .cache)) (a .offset)
-named c = ap isWhole (c .read-name .ensures .0) ∙ ap (λ (t : List ℕ). isWhole (text 255 t)) (c .before .name-part .ensures)
+    → let a = start c .args in isWhole (c .read-name .result .extent) ≡ validName (now (a .cache)) (a .«record»)
+named c = ap isWhole (c .read-name .ensures .0) ∙ ap (λ (t : List ℕ). isWhole (extent 255 t)) (c .before .name-part .ensures)
 
 -- a name that keeps rule 8 was read to its end
 hashed : (c : tie.After-read-name)
     → let a = start c .args in
-    nameRight (now (a .cache)) (a .offset) ≡ true → c .read-name .result .hash ≡ hash (nameOf (now (a .cache)) (a .offset))
-hashed c right =
+    validName (now (a .cache)) (a .«record») ≡ true → c .read-name .result .hash ≡ hash (nameOf (now (a .cache)) (a .«record»))
+hashed c valid =
     c .read-name .ensures .1
     ∙ ap (λ (t : List ℕ). hash (take 255 (string t))) (c .before .name-part .ensures)
-    ∙ ap hash (whole-within 255 _ right)
+    ∙ ap hash (whole-within 255 _ valid)
 
-whole : (c : tie.After-struct-known2) → nameRight (now (start-of-all c .args .cache)) (start-of-all c .args .offset) ≡ true
+whole : (c : tie.After-struct-known2) → validName (now (start-of-all c .args .cache)) (start-of-all c .args .«record») ≡ true
 whole c = sym (named (c .before .before .before .before)) ∙ tag-whole _ (c .before .before .before .match .keys1)
 
 placed : (c : tie.After-struct-known2)
     → let a = start-of-all c .args in
-    c .before .before .before .before .read-name .result .hash % a .t .buckets ≡ bucketOf (now (a .cache)) (nameOf (now (a .cache)) (a .offset))
+    c .before .before .before .before .read-name .result .hash % a .t .buckets ≡ bucketOf (now (a .cache)) (nameOf (now (a .cache)) (a .«record»))
 placed c = let read = c .before .before .before .before in hash-bucket _ _ (hashed read (whole c)) (counted (start-of-all c))
 
 returns : tie.Need-returns
@@ -59,7 +59,7 @@ returns-2 : tie.Need-returns-2
 returns-2 c = sym (name-unread _ _ _ (sym (named (c .before)) ∙ tag-not-whole _ (c .match .keys2)))
 
 rem-if2 : tie.Need-rem-if2
-rem-if2 c = rw (counted (start-of-all c)) (header-right _ (start-of-all c .pre .0 .header) .buckets-some)
+rem-if2 c = rw (counted (start-of-all c)) (header-valid _ (start-of-all c .pre .0 .header) .buckets-some)
 
 returns-3 : tie.Need-returns-3
 returns-3 c = sym (name-foreign _ _ _ (whole (c .before)) (rw (placed (c .before)) at (c .if2 .taken)))
@@ -77,7 +77,6 @@ judge-name-spec =
     (λ c. search needs)
     (λ c. search needs)
     returns-2
-    (λ c. search needs)
     rem-if2
     (λ c. search needs)
     returns-3

@@ -12,15 +12,15 @@ use borrow.Author.Tests.{not-true, not-false}
 use lib.ListN.{length, take, drop}
 use denote.Ref.{now}
 use Rattle.format.specs.Number.{be}
-use Rattle.format.specs.Text.{string, text, isWhole}
-use Rattle.format.specs.declared.Text.the-variants.{Whole}
-use Rattle.format.specs.Segments.{segmentsRight}
+use Rattle.format.specs.String.{string, extent, isWhole}
+use Rattle.format.specs.declared.Extent.the-variants.{Whole}
+use Rattle.format.specs.Segments.{validSegments}
 use Rattle.format.specs.Fault.{fault, noFault}
 use Rattle.format.specs.Header.{pathField, pathPart, pathOf, pathFault}
-use Rattle.format.specs.Laws.Header.{HeaderRight, header-right}
+use Rattle.format.specs.Laws.Header.{ValidHeader, header-valid}
 use Rattle.format.specs.Laws.Paths.{path-not-whole, path-absolute, path-segments, path-kept}
 use Rattle.format.specs.Laws.Strings.{whole-string, whole-length, whole-is-whole, whole-within}
-use Rattle.text.proofs.Tags.{tag-not-whole}
+use Rattle.strings.proofs.Tags.{tag-not-whole}
 use Rattle.tables.specs.Tables.{pathFieldOf, pathJudged, pathBroken}
 use Rattle.tables.proofs.path.Statement.{statement}
 use Rattle.tables.proofs.path.Tie as tie
@@ -33,8 +33,8 @@ judged-kept : (s : List ℕ) (i : ℕ) {a n : ℕ} → pathFault s i ≡ noFault
     → record { fault = noFault; start = a; length = n } ≡ pathJudged s i
 judged-kept s i e start end = rw (e, start, end)
 
-right : (c : tie.Start) → HeaderRight (now (c .args .cache))
-right c = header-right _ (c .pre .0 .header)
+valid : (c : tie.Start) → ValidHeader (now (c .args .cache))
+valid c = header-valid _ (c .pre .0 .header)
 
 field-of : (c : tie.Start) → pathFieldOf (c .args .t) (c .args .i) ≡ pathField (now (c .args .cache)) (c .args .i)
 field-of c = ap (λ t. pathFieldOf t (c .args .i)) (c .pre .0 .tables)
@@ -49,9 +49,9 @@ start-is c = c .u32-at .ensures ∙ ap (be 4 (now (c .before .before .before .ar
 part-is : (c : tie.After-from) → let a = c .before .before .before .before .args in now (c .from .result) ≡ pathPart (now (a .cache)) (a .i)
 part-is c = c .from .ensures ∙ ap (λ n. drop n (now (c .before .before .before .before .args .cache))) (start-is (c .before))
 
-text-is : (c : tie.After-read-path)
-    → let a = c .before .before .before .before .before .args in c .read-path .result .text ≡ text 1023 (pathPart (now (a .cache)) (a .i))
-text-is c = c .read-path .ensures .0 ∙ ap (text 1023) (part-is (c .before))
+extent-is : (c : tie.After-read-path)
+    → let a = c .before .before .before .before .before .args in c .read-path .result .extent ≡ extent 1023 (pathPart (now (a .cache)) (a .i))
+extent-is c = c .read-path .ensures .0 ∙ ap (extent 1023) (part-is (c .before))
 
 -- in the arm of a whole path: where the path was read, what it is, and that its segments were read
 -- to its end
@@ -59,29 +59,26 @@ abbrev read : tie.After-shared-slice-known2 → tie.After-read-path
 read c = c .before .before .before .before
 
 told : (c : tie.After-shared-slice-known2)
-    → let a = read c .before .before .before .before .before .args in text 1023 (pathPart (now (a .cache)) (a .i)) ≡ Whole (c .before .before .text .given .0 .0)
-told c = sym (text-is (read c)) ∙ c .before .before .text .given .1
+    → let a = read c .before .before .before .before .before .args in extent 1023 (pathPart (now (a .cache)) (a .i)) ≡ Whole (c .before .before .extent .given .0 .0)
+told c = sym (extent-is (read c)) ∙ c .before .before .extent .given .1
 
 whole : (c : tie.After-shared-slice-known2)
-    → let a = read c .before .before .before .before .before .args in isWhole (text 1023 (pathPart (now (a .cache)) (a .i))) ≡ true
+    → let a = read c .before .before .before .before .before .args in isWhole (extent 1023 (pathPart (now (a .cache)) (a .i))) ≡ true
 whole c = whole-is-whole 1023 _ _ (told c)
 
 segments-are : (c : tie.After-shared-slice-known2)
-    → let a = read c .before .before .before .before .before .args in read c .read-path .result .«segments_right» ≡ segmentsRight (pathOf (now (a .cache)) (a .i))
+    → let a = read c .before .before .before .before .before .args in read c .read-path .result .«valid_segments» ≡ validSegments (pathOf (now (a .cache)) (a .i))
 segments-are c =
     read c .read-path .ensures .1
-    ∙ ap (λ (t : List ℕ). segmentsRight (take 1023 (string t))) (part-is (read c .before))
-    ∙ ap segmentsRight (whole-within 1023 _ (whole c))
-
-path-field-requires : tie.Need-path-field-requires
-path-field-requires c κs = omega (arith, right (c .before), field-of (c .before))
+    ∙ ap (λ (t : List ℕ). validSegments (take 1023 (string t))) (part-is (read c .before))
+    ∙ ap validSegments (whole-within 1023 _ (whole c))
 
 u32-at-requires : tie.Need-u32-at-requires
-u32-at-requires c κs = omega (arith, right (c .before .before), field-is c)
+u32-at-requires c κs = omega (arith, valid (c .before .before), field-is c)
 
 shared-slice-read-if1 : tie.Need-shared-slice-read-if1
 shared-slice-read-if1 c =
-    let is-whole = whole-is-whole 1023 _ _ (sym (read c .read-path .ensures .0) ∙ c .before .before .text .given .1) in
+    let is-whole = whole-is-whole 1023 _ _ (sym (read c .read-path .ensures .0) ∙ c .before .before .extent .given .1) in
     omega (arith, whole-string 1023 _ is-whole)
 
 returns : tie.Need-returns
@@ -103,20 +100,20 @@ returns-3 c =
     let arm = c .before .before in
     let part = read arm .before in
     let no-slash = rw (part-is part) at (c .before .if1 .left) in
-    let all-right = sym (segments-are arm) ∙ not-false _ (c .if2 .left) in
-    judged-kept _ _ (path-kept _ _ (whole arm) no-slash all-right) (start-is (part .before)) (whole-length 1023 _ _ (told arm))
+    let all-valid = sym (segments-are arm) ∙ not-false _ (c .if2 .left) in
+    judged-kept _ _ (path-kept _ _ (whole arm) no-slash all-valid) (start-is (part .before)) (whole-length 1023 _ _ (told arm))
 
 returns-4 : tie.Need-returns-4
 returns-4 c =
     let path-read = c .before .before in
-    let broken = ap isWhole (sym (text-is path-read)) ∙ tag-not-whole _ (c .before .match .keys2) in
+    let broken = ap isWhole (sym (extent-is path-read)) ∙ tag-not-whole _ (c .before .match .keys2) in
     c .bad-path3 .ensures ∙ rw (field-is (path-read .before .before .before)) (sym (judged-broken _ _ (path-not-whole _ _ broken)))
 
 pub path-spec : {M : Type 1} → statement M
 path-spec =
     tie.close
     (tie.spec
-    path-field-requires
+    (λ c κs. search needs)
     u32-at-requires
     (λ c. search needs)
     (λ c κs. search needs)

@@ -9,9 +9,9 @@ use borrow.Author.Needs.{needs}
 use denote.Ref.{now}
 use Rattle.format.specs.Header.{buckets}
 use Rattle.format.specs.Chain.{chainOf, mostRecords}
-use Rattle.format.specs.declared.Link.{Link}
-use Rattle.tables.specs.Laws.{right-header, right-buckets}
-use Rattle.chains.specs.declared.Followed.{Followed}
+use Rattle.format.specs.declared.Next.{Next}
+use Rattle.tables.specs.Laws.{valid-header, same-buckets}
+use Rattle.chains.specs.declared.Walked.{Walked}
 use Rattle.listing.specs.Listing.{onward}
 use Rattle.listing.specs.Laws.Steps.{onward-ends, onward-breaks, onward-gives}
 use Rattle.listing.proofs.Position.onward.Statement.{statement}
@@ -26,44 +26,47 @@ Inv-loop self cache t n bucket₀ passed₀ bucket passed =
 abbrev μ-loop : tie.MeasureT-loop
 μ-loop self cache t n bucket₀ passed₀ bucket passed = n - bucket
 
+abbrev start : tie.At-loop Inv-loop μ-loop → tie.Start Inv-loop μ-loop
+start l = l .before .before .before
+
 -- a turn is one bucket more
 turn : (c : tie.In-loop Inv-loop μ-loop)
     → let l = c .before in
-    let a = l .before .before .args in
+    let a = start l .args in
     onward (suc (a .t .buckets - (l .loop .bucket + 1))) (now (a .cache)) (a .self) (l .loop .bucket) (l .loop .passed)
     ≡ onward (buckets (now (a .cache)) - a .self .bucket) (now (a .cache)) (a .self) (a .self .bucket) (a .self .count)
 turn c =
     let l = c .before in
-    let n = l .before .before .args .t .buckets in
+    let n = start l .args .t .buckets in
     let more : n - l .loop .bucket ≡ suc (n - (l .loop .bucket + 1)) = omega arith in
     rw more at (l .loop .inv .2)
 
 -- what comes after the records passed
-after : (c : tie.After-chain Inv-loop μ-loop) {e : Link} → c .chain .result .after ≡ e
+after : (c : tie.After-walk Inv-loop μ-loop) {e : Next} → c .walk .result .after ≡ e
     → let l = c .before .before in
-    chainOf (now (l .before .before .args .cache)) (l .loop .bucket) (l .loop .passed) .after ≡ e
-after c q = sym (ap (λ (f : Followed). f .after) (c .chain .ensures)) ∙ q
+    chainOf (now (start l .args .cache)) (l .loop .bucket) (l .loop .passed) .after ≡ e
+after c q = sym (ap (λ (w : Walked). w .after) (c .walk .ensures)) ∙ q
 
 returns : tie.Need-returns Inv-loop μ-loop
 returns c =
-    let chained = c .before .before .before in
-    rw add-one (sym (onward-gives _ _ _ _ _ (after chained (c .before .after .given .1))) ∙ turn (chained .before))
+    let w = c .before .before .before in
+    rw add-one (sym (onward-gives _ _ _ _ _ (after w (c .before .after .given .1))) ∙ turn (w .before))
 
 returns-2 : tie.Need-returns-2 Inv-loop μ-loop
 returns-2 c =
-    let chained = c .before .before .before .before in
-    c .stay .ensures ∙ sym (onward-breaks _ _ _ _ _ (after chained (c .before .before .after2 .given .1))) ∙ turn (chained .before)
+    let w = c .before .before .before .before in
+    c .stay .ensures ∙ sym (onward-breaks _ _ _ _ _ (after w (c .before .before .after2 .given .1))) ∙ turn (w .before)
 
 loop-again : tie.Need-loop-again Inv-loop μ-loop
 loop-again c =
-    let chained = c .before .before in
-    (omega arith, omega arith, rw add-one (sym (onward-ends _ _ _ _ _ (after chained (c .enum-told .given .1)))) ∙ turn (chained .before))
+    let w = c .before .before in
+    (omega arith, omega arith, rw add-one (sym (onward-ends _ _ _ _ _ (after w (c .enum-told .given .1)))) ∙ turn (w .before))
 
 returns-3 : tie.Need-returns-3 Inv-loop μ-loop
 unfolding onward
 returns-3 c =
     let l = c .before .before in
-    let none : l .before .before .args .t .buckets - l .loop .bucket ≡ 0 = omega arith in
+    let none : start l .args .t .buckets - l .loop .bucket ≡ 0 = omega arith in
     c .stay2 .ensures ∙ rw none at (l .loop .inv .2)
 
 pub onward-spec : {M : Type 1} → statement M
@@ -72,10 +75,12 @@ onward-spec =
     (tie.spec
     Inv-loop
     μ-loop
-    (λ c. let pre = c .before .pre in (omega (arith, pre, right-buckets (pre .0)), pre .1 .1, rw (right-buckets (pre .0))))
-    (λ c κs. let right = c .before .before .before .pre .0 in (right, omega (arith, right-buckets right)))
+    (λ c. omega (arith, same-buckets (c .before .before .pre .0), valid-header (c .before .before .pre .0)))
+    (λ c. let pre = c .before .before .pre in (omega (arith, pre, same-buckets (pre .0)), pre .1 .1, rw (same-buckets (pre .0))))
+    (λ c κs. let pre = start (c .before) .pre .0 in (pre, (omega (arith, same-buckets pre), omega (arith, valid-header pre))))
     (λ c. c .match .keys1)
-    (λ c. omega (arith, right-header (c .before .before .before .before .before .before .before .pre .0)))
+    (λ c. search needs)
+    (λ c. omega (arith, valid-header (start (c .before .before .before .before .before) .pre .0)))
     returns
     (λ c. c .match .keys2)
     (λ c κs. search needs)

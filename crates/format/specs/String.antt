@@ -1,0 +1,63 @@
+-- Strings, and the hash of a name. A string is given by the part of the buffer from its offset on.
+use Prim.Native.Nat.{ℕ, zero, suc, _+_, _-_, _*_, _%_, _^_}
+use mathlib.Core.List.{List, [], _∷_, map}
+use mathlib.Core.Bool.{Bool, true, false, _&&_}
+use lib.ListN.{length}
+use lib.Dec.{ltb, leb, eqb}
+use Rattle.format.specs.Choice.{if_then_else_}
+use Rattle.format.specs.Layout.{longestName}
+use Rattle.format.specs.declared.Extent.{Extent}
+use Rattle.format.specs.declared.Extent.the-variants.{Whole, Empty, Long, Cut}
+
+-- the bytes before the first zero byte
+unfoldable pub string : List ℕ → List ℕ
+string [] = []
+string (zero ∷ t) = []
+string (suc b ∷ t) = suc b ∷ string t
+
+-- what a string is that a zero byte ends after n bytes
+abbrev pub ended : ℕ → Extent
+ended n = if eqb n 0 then Empty else Whole n
+
+-- what the string at the front of t is, within the limit: too long if its first limit + 1 bytes lie
+-- inside without a zero byte, else cut off if no zero byte comes
+unfoldable pub extent : ℕ → List ℕ → Extent
+extent limit t =
+    let n = length (string t) in
+    if ltb limit n then Long else if leb (length t) n then Cut else ended n
+
+unfoldable pub isWhole : Extent → Bool
+isWhole (Whole n) = true
+isWhole Empty = false
+isWhole Long = false
+isWhole Cut = false
+
+-- the same length and the same bytes
+unfoldable pub sameBytes : List ℕ → List ℕ → Bool
+sameBytes [] [] = true
+sameBytes [] (b ∷ t) = false
+sameBytes (a ∷ s) [] = false
+sameBytes (a ∷ s) (b ∷ t) = eqb a b && sameBytes s t
+
+-- a byte as a signed number, modulo 2^32: 128 to 255 count as -128 to -1 (request 1; in document 01
+-- bytes count as 0 to 255)
+unfoldable pub signed : ℕ → ℕ
+signed b = if ltb b 128 then b else 2 ^ 32 + b - 256
+
+-- the hash after the numbers that are left: 31 times the hash so far plus the number, modulo 2^32
+unfoldable pub hashFrom : ℕ → List ℕ → ℕ
+hashFrom h [] = h
+hashFrom h (n ∷ t) = hashFrom ((31 * h + n) % 2 ^ 32) t
+
+-- document 01's hash, of any numbers: the first, then one step for each later one
+unfoldable pub hashNumbers : List ℕ → ℕ
+hashNumbers [] = 0
+hashNumbers (n ∷ t) = hashFrom n t
+
+-- the hash of a name: that of its bytes as signed numbers
+unfoldable pub hash : List ℕ → ℕ
+hash name = hashNumbers (map signed name)
+
+-- a name that may be asked for has 1 to 255 bytes, none of them zero
+unfoldable pub allowed : List ℕ → Bool
+allowed name = ltb 0 (length name) && leb (length name) longestName && eqb (length (string name)) (length name)

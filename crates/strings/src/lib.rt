@@ -1,0 +1,227 @@
+// Strings that end in a zero byte: what one is, as a name with its hash or as a path with its
+// segments; whether a name is the one asked for, and whether it may be asked for. A string is
+// handed over as the part of the buffer from its offset on.
+ghost use mathlib.Core.Path.{_≡_};
+ghost use mathlib.Core.Bool.{_&&_};
+ghost use Prim.Native.Nat.{_-_, _*_, _%_, _^_, _≤_};
+ghost use lib.ListN.{length, take, drop};
+ghost use Rattle.format.specs.String.{string, extent, isWhole, sameBytes, hash, allowed};
+ghost use Rattle.format.specs.String as definition;
+ghost use Rattle.format.specs.Segments.{validSegment, validSegments};
+use format::Extent;
+use std::num::wrapping_add_u8;
+use std::num::wrapping_add_u32;
+use std::num::wrapping_sub_u32;
+
+// A string as a name, and the hash of its first 255 bytes: of all of them, unless it is too long.
+pub struct Name {
+    pub extent: Extent,
+    pub hash: u32,
+}
+
+// A string as a path, and whether the segments of its first 1,023 bytes are valid: of all of them,
+// unless it is too long.
+pub struct Path {
+    pub extent: Extent,
+    pub valid_segments: bool,
+}
+
+// Whether a name may be asked for, and its hash where it may.
+pub struct Query {
+    pub allowed: bool,
+    pub hash: u32,
+}
+
+// The part of `cache` from the offset `at` on, which is empty past the end.
+pub fn from(cache: &[u8], at: usize) -> &[u8]
+    ensures { λ r. ⌜ now r ≡ drop at (now (cache .entry)) ⌝ }
+{
+    if at <= cache.len() {
+        &cache[at..]
+    } else {
+        &cache[..0]
+    }
+}
+
+// What a string is that a zero byte ends after `n` bytes.
+fn ended(n: usize) -> Extent
+    ensures { λ r. ⌜ r ≡ definition.ended n ⌝ }
+{
+    if n == 0 {
+        Extent::Empty
+    } else {
+        Extent::Whole(n)
+    }
+}
+
+// 31 times `h`, modulo 2^32: the `(h << 5) - h` of the note that `read_name` quotes. Bits that
+// leave the 32 are lost, as in C.
+fn times31(h: u32) -> u32
+    ensures { λ r. ⌜ r ≡ (31 * h) % 2 ^ 32 ⌝ }
+{
+    wrapping_sub_u32(h << 5, h)
+}
+
+// A byte as a signed number, modulo 2^32. 128 is added within 8 bits, where a byte from 128 on
+// wraps, and taken away within 32 bits, where such a byte then wraps below 0. The compiler makes
+// one sign extension of it.
+fn signed(byte: u8) -> u32
+    ensures { λ r. ⌜ r ≡ definition.signed byte ⌝ }
+{
+    let raised = wrapping_add_u8(byte, 128) as u32;
+    wrapping_sub_u32(raised, 128)
+}
+
+// What the string at the front of `part` is as a name, and its hash. One loop serves both: most of
+// a lookup is the reading of the names that it passes. No more than 256 bytes are read.
+//
+// The hash is computed as the freedesktop note (source document 000) prints it under "Notes", in
+// `icon_str_hash`, each step modulo 2^32:
+//
+//     unsigned int h = *p;
+//
+//     if (h)
+//       for (p += 1; *p != '\0'; p++)
+//         h = (h << 5) - h + *p;
+//
+// `times31` is the note's `(h << 5) - h`, and `signed` its `*p`. Here the first byte goes through
+// the loop too: from 0, `(0 << 5) - 0 + *p` is `*p`. `if (h)` is left out: the first byte of an
+// allowed name is not zero, so the test always holds.
+pub fn read_name(part: &[u8]) -> Name
+    ensures extent { λ r. ⌜ r .extent ≡ extent 255 (now (part .entry)) ⌝ }
+    ensures hash { λ r. ⌜ r .hash ≡ hash (take 255 (string (now (part .entry)))) ⌝ }
+{
+    let mut hash = 0;
+    let mut i = 0;
+    while i < part.len() {
+        let byte = part[i];
+        if byte == 0 {
+            return Name {
+                extent: ended(i),
+                hash,
+            };
+        }
+        if i == 255 {
+            return Name {
+                extent: Extent::Long,
+                hash,
+            };
+        }
+        // h = (h << 5) - h + *p
+        hash = wrapping_add_u32(times31(hash), signed(byte));
+        i += 1;
+    }
+    Name {
+        extent: Extent::Cut,
+        hash,
+    }
+}
+
+// Whether `segment` is one that a path may have: not empty, "." or "..". Of one with three bytes or
+// more no byte is read.
+fn valid_segment(segment: &[u8]) -> bool
+    ensures { λ r. ⌜ r ≡ validSegment (now (segment .entry)) ⌝ }
+{
+    match segment.len() {
+        0 => false,
+        1 => segment[0] != b'.',
+        2 => segment[0] != b'.' || segment[1] != b'.',
+        _ => true,
+    }
+}
+
+// Whether the segments before are valid, and the one from `start` to `end` too.
+fn valid_to(part: &[u8], before: bool, start: usize, end: usize) -> bool
+    requires { ⌜ (start ≤ end) × (end ≤ length (now part)) ⌝ }
+    ensures { λ r. ⌜ r ≡ (before && validSegment (take (end - start) (drop start (now (part .entry))))) ⌝ }
+{
+    if before {
+        valid_segment(&part[start..end])
+    } else {
+        false
+    }
+}
+
+// What the string at the front of `part` is as a path, and whether its segments are valid. One loop
+// serves both: a segment is judged where it ends. No more than 1,024 bytes are read.
+pub fn read_path(part: &[u8]) -> Path
+    ensures extent { λ r. ⌜ r .extent ≡ extent 1023 (now (part .entry)) ⌝ }
+    ensures segments { λ r. ⌜ r .«valid_segments» ≡ validSegments (take 1023 (string (now (part .entry)))) ⌝ }
+{
+    let mut valid = true;
+    let mut start = 0;
+    let mut i = 0;
+    while i < part.len() {
+        let byte = part[i];
+        if byte == 0 {
+            let valid_segments = valid_to(part, valid, start, i);
+            return Path {
+                extent: ended(i),
+                valid_segments,
+            };
+        }
+        if i == 1023 {
+            return Path {
+                extent: Extent::Long,
+                valid_segments: valid_to(part, valid, start, i),
+            };
+        }
+        if byte == b'/' {
+            valid = valid_to(part, valid, start, i);
+            start = i + 1;
+        }
+        i += 1;
+    }
+    Path {
+        extent: Extent::Cut,
+        valid_segments: valid_to(part, valid, start, i),
+    }
+}
+
+// Whether the string at the front of `part` is whole and is `name`: as long, and byte for byte the
+// same.
+pub fn same(part: &[u8], name: &[u8]) -> bool
+    requires { ⌜ length (now name) ≤ 255 ⌝ }
+    ensures { λ r. ⌜ r ≡ (isWhole (extent 255 (now (part .entry))) && sameBytes (string (now (part .entry))) (now (name .entry))) ⌝ }
+{
+    let mut i = 0;
+    while i < part.len() {
+        if part[i] == 0 {
+            return if i == 0 { false } else { i == name.len() };
+        }
+        if i == name.len() {
+            return false;
+        }
+        if part[i] != name[i] {
+            return false;
+        }
+        i += 1;
+    }
+    false
+}
+
+// Whether `name` may be asked for, with 1 to 255 bytes and none of them zero, and its hash.
+pub fn asked(name: &[u8]) -> Query
+    ensures allowed { λ r. ⌜ r .allowed ≡ allowed (now (name .entry)) ⌝ }
+    ensures hash { λ r. ⌜ r .hash ≡ hash (take 255 (string (now (name .entry)))) ⌝ }
+{
+    let read = read_name(name);
+    let hash = read.hash;
+    let extent = read.extent;
+    if name.len() == 0 {
+        return Query {
+            allowed: false,
+            hash,
+        };
+    }
+    match extent {
+        Extent::Cut => Query {
+            allowed: true,
+            hash,
+        },
+        _ => Query {
+            allowed: false,
+            hash,
+        },
+    }
+}

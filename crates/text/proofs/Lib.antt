@@ -1,2 +1,0 @@
-pub mod Tags
-pub mod Wrapping
