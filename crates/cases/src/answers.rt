@@ -1,7 +1,9 @@
 // Prints one line for each answer: the case, the call, and every number that the call gives.
+use flags::FlagsAnswer;
 use format::LookupAnswer;
 use libc::STDOUT_FILENO;
 use listing::Position;
+use std::num::wrapping_add_usize;
 
 pub fn print(text: &[u8]) {
     io::write_all(STDOUT_FILENO, text);
@@ -43,6 +45,15 @@ pub fn wide(word: u32) -> usize {
     word as usize
 }
 
+// One more than `before` if what is counted holds.
+pub fn counted(before: usize, holds: bool) -> usize {
+    if holds {
+        wrapping_add_usize(before, 1)
+    } else {
+        before
+    }
+}
+
 fn print_words(words: &[u32]) {
     if words.len() == 0 {
         print(b", no words");
@@ -57,9 +68,9 @@ fn print_words(words: &[u32]) {
 }
 
 // The front of `words`, as many as are to be lent.
-fn front(words: &mut [u32], room: usize) -> &mut [u32] {
+pub fn front(words: &mut [u32], room: usize) -> &mut [u32] {
     if room < words.len() {
-        &mut words[..room]
+        &mut words[0..room]
     } else {
         words
     }
@@ -86,14 +97,46 @@ pub fn directory(case: &[u8], cache: &[u8], index: usize) {
     print(b"\"\n");
 }
 
-// A step; the position that it hands back is for the next.
-pub fn step(case: &[u8], cache: &[u8], from: Position) -> Position {
+pub fn step(case: &[u8], cache: &[u8], from: Position) {
     let answer = from.next(cache);
     let next = answer.next;
     begin(case, b": step ", answer.number, answer.place);
-    count(b", record ", answer.offset);
+    count(b", record ", answer.record);
     count(b", bucket ", next.bucket);
     count(b", count ", next.count);
     end();
-    next
+}
+
+// The hash of the name at the front of `part`.
+pub fn hash(case: &[u8], part: &[u8]) {
+    print(case);
+    count(b": hash ", strings::read_name(part).hash as usize);
+    end();
+}
+
+// One call for flags; its case is named by what is given.
+fn turn(given: u16, numbering: u32, call: &[u8], answer: FlagsAnswer) {
+    count(b"flags ", given as usize);
+    count(b" and numbering ", numbering as usize);
+    begin(b"", call, answer.number, answer.place);
+    count(b", flags ", answer.flags as usize);
+    end();
+}
+
+// Both calls for flags, with the low 16 bits of `a` and the low 32 of `b`.
+pub fn flags(a: usize, b: usize) {
+    let given = (a % 65536) as u16;
+    let numbering = (b % 4294967296) as u32;
+    turn(
+        given,
+        numbering,
+        b": in ",
+        flags::flags_in(given, numbering),
+    );
+    turn(
+        given,
+        numbering,
+        b": out ",
+        flags::flags_out(given, numbering),
+    );
 }

@@ -1,91 +1,120 @@
-// Writes the parts of a cache into a buffer. A byte past the buffer's end is left out; the stored
-// output would show that it is missing. Offsets are bounded only so that no sum wraps.
-ghost use Prim.Native.Nat.{_<_, _^_};
+// The commands that make a cache. It stands at the front of a larger buffer. A byte past the
+// buffer's end is left out; the stored output would show that it is missing.
+use crate::icons;
+use crate::images;
+use crate::script;
+use crate::script::Words;
+use std::num::wrapping_add_usize;
 
-// No further record.
-pub const NONE: u32 = 0xFFFFFFFF;
+// How many bytes the cache has, and the kept one.
+pub struct Lengths {
+    pub cache: usize,
+    pub kept: usize,
+}
 
-fn put_byte(cache: &mut [u8], at: usize, value: u8) {
+pub fn put_byte(cache: &mut [u8], at: usize, value: u8) {
     if at < cache.len() {
         cache[at] = value;
     }
 }
 
 // The low byte of `value`.
-fn low(value: u32) -> u8 {
+fn low(value: usize) -> u8 {
     (value % 256) as u8
 }
 
-pub fn put_u16(cache: &mut [u8], at: usize, value: u16)
-    requires { ⌜ at < 2 ^ 32 ⌝ }
-{
-    put_byte(cache, at, low((value / 256) as u32));
-    put_byte(cache, at + 1, low(value as u32));
-}
-
-pub fn put_u32(cache: &mut [u8], at: usize, value: u32)
-    requires { ⌜ at < 2 ^ 32 ⌝ }
-{
+// `value` modulo 2^32, in four bytes.
+pub fn put_u32(cache: &mut [u8], at: usize, value: usize) {
     put_byte(cache, at, low(value / 16777216));
-    put_byte(cache, at + 1, low(value / 65536));
-    put_byte(cache, at + 2, low(value / 256));
-    put_byte(cache, at + 3, low(value));
+    put_byte(cache, wrapping_add_usize(at, 1), low(value / 65536));
+    put_byte(cache, wrapping_add_usize(at, 2), low(value / 256));
+    put_byte(cache, wrapping_add_usize(at, 3), low(value));
 }
 
-fn copy(part: &mut [u8], string: &[u8]) {
+// Puts `string` at `at`, and a zero byte after it.
+pub fn put_string(cache: &mut [u8], at: usize, string: &[u8]) {
     let mut i = 0;
     while i < string.len() {
-        put_byte(part, i, string[i]);
+        put_byte(cache, wrapping_add_usize(at, i), string[i]);
         i += 1;
     }
-    put_byte(part, i, 0);
+    put_byte(cache, wrapping_add_usize(at, i), 0);
 }
 
-// `string` and its zero byte.
-pub fn put_string(cache: &mut [u8], at: usize, string: &[u8]) {
-    if at < cache.len() {
-        copy(&mut cache[at..], string);
+// Puts digit `n` of the bytes from `at` on, and counts it; a space counts for none. A digit moves
+// into its byte from the right, so that two of them replace it.
+fn put_digit(cache: &mut [u8], at: usize, n: usize, c: u8) -> usize {
+    if c == b' ' {
+        return n;
+    }
+    let place = wrapping_add_usize(at, n / 2);
+    let high = script::byte(cache, place) % 16 * 16;
+    put_byte(cache, place, high | script::digit(c));
+    wrapping_add_usize(n, 1)
+}
+
+// Puts the bytes that the digits write.
+fn put_hex(cache: &mut [u8], at: usize, hex: &[u8]) {
+    let mut n: usize = 0;
+    let mut i = 0;
+    while i < hex.len() {
+        n = put_digit(cache, at, n, hex[i]);
+        i += 1;
     }
 }
 
-// Version 1.0, and where the hash and the directory list stand.
-pub fn put_header(cache: &mut [u8], hash: u32, directories: u32) {
-    put_u16(cache, 0, 1);
-    put_u16(cache, 2, 0);
-    put_u32(cache, 4, hash);
-    put_u32(cache, 8, directories);
+// Puts the same byte `count` times.
+fn fill(cache: &mut [u8], at: usize, count: usize, value: u8) {
+    let mut i = 0;
+    while i < count {
+        put_byte(cache, wrapping_add_usize(at, i), value);
+        i += 1;
+    }
 }
 
-pub fn put_record(cache: &mut [u8], at: usize, chain: u32, name: u32, images: u32)
-    requires { ⌜ at < 65536 ⌝ }
-{
-    put_u32(cache, at, chain);
-    put_u32(cache, at + 4, name);
-    put_u32(cache, at + 8, images);
+// The commands that only write.
+pub fn write(line: &[u8], w: Words, cache: &mut [u8]) {
+    let command = w.command;
+    match command {
+        b'b' => put_hex(cache, w.a, script::rest(line, w.second)),
+        b'f' => fill(cache, w.a, w.b, script::byte(line, w.third)),
+        b'u' => put_u32(cache, w.a, w.b),
+        b't' => put_string(cache, w.a, script::rest(line, w.second)),
+        b'i' => images::put(cache, w.a, w.b),
+        b'r' => icons::put(cache),
+        _ => {}
+    }
 }
 
-pub fn put_image(cache: &mut [u8], at: usize, index: u16, flags: u16, data: u32)
-    requires { ⌜ at < 65536 ⌝ }
-{
-    put_u16(cache, at, index);
-    put_u16(cache, at + 2, flags);
-    put_u32(cache, at + 4, data);
+// Makes a cache of zero bytes.
+fn clear(cache: &mut [u8], length: usize, kept: usize) -> Lengths {
+    fill(cache, 0, length, 0);
+    Lengths {
+        cache: length,
+        kept,
+    }
 }
 
-// The first 24 bytes of most caches here: one bucket, at 12, whose field is at 16, and no
-// directories, at 20.
-pub fn start(cache: &mut [u8], field: u32) {
-    put_header(cache, 12, 20);
-    put_u32(cache, 12, 1);
-    put_u32(cache, 16, field);
-    put_u32(cache, 20, 0);
+// Copies one cache over another, and a zero byte that counts to neither.
+fn copy(to: &mut [u8], from: &[u8], length: usize) -> Lengths {
+    put_string(to, 0, script::part(from, 0, length));
+    Lengths {
+        cache: length,
+        kept: length,
+    }
 }
 
-// The first `length` bytes of `cache`.
-pub fn front(cache: &[u8], length: usize) -> &[u8] {
-    if length < cache.len() {
-        &cache[..length]
-    } else {
-        cache
+// The commands that give the cache a length.
+pub fn resize(w: Words, cache: &mut [u8], kept: &mut [u8], before: Lengths) -> Lengths {
+    let command = w.command;
+    match command {
+        b'z' => clear(cache, w.a, before.kept),
+        b'o' => Lengths {
+            cache: w.a,
+            kept: before.kept,
+        },
+        b'k' => copy(kept, cache, before.cache),
+        b'a' => copy(cache, kept, before.kept),
+        _ => before,
     }
 }

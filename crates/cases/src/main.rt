@@ -1,31 +1,71 @@
-// Runs the cases of documents 01 and 02 and prints a line for each. The stored output was written
-// from them, so a run that differs is a fault of the code. Each file of src/ holds the cases on one
-// subject; answers.rt prints, and build.rt and farm.rt make the caches.
+// Runs the cases of documents 01 and 02, which stand on standard input, and prints a line for each
+// call. The stored output was written from the documents, so a run that differs is a fault of the
+// code. The head of the file `stdin` says how a case is written.
 mod answers;
 mod build;
-mod directories;
-mod farm;
-mod hashes;
-mod header;
+mod calls;
+mod icons;
 mod images;
-mod names;
-mod numberings;
-mod places;
-mod queries;
-mod segments;
-mod steps;
-mod walks;
+mod script;
 
+use build::Lengths;
+use libc::STDIN_FILENO;
+
+// Where the name of the case at hand stands in the script.
+struct Title {
+    from: usize,
+    to: usize,
+}
+
+// The case that the line at `from` to `to` belongs to: a star starts one.
+fn titled(script: &[u8], from: usize, to: usize, before: Title) -> Title {
+    if script::byte(script, from) == b'*' {
+        Title {
+            from: script::next(script, from),
+            to,
+        }
+    } else {
+        before
+    }
+}
+
+// Runs one line: at most one of the three knows its word.
+fn run_line(
+    case: &[u8],
+    line: &[u8],
+    cache: &mut [u8],
+    kept: &mut [u8],
+    before: Lengths,
+) -> Lengths {
+    let words = script::split(line);
+    let lengths = build::resize(words, cache, kept, before);
+    build::write(line, words, cache);
+    calls::ask(case, line, words, cache, lengths.cache);
+    lengths
+}
+
+// Each line ends with a newline.
+fn run(script: &[u8], cache: &mut [u8], kept: &mut [u8]) {
+    let mut case = Title { from: 0, to: 0 };
+    let mut lengths = Lengths { cache: 0, kept: 0 };
+    let mut at = 0;
+    while at < script.len() {
+        let end = script::find(script, at, b'\n');
+        if script.len() <= end {
+            return;
+        }
+        case = titled(script, at, end, case);
+        let name = script::part(script, case.from, case.to);
+        lengths = run_line(name, script::part(script, at, end), cache, kept, lengths);
+        at = end + 1;
+    }
+}
+
+// The largest cache of the script has 262,190 bytes.
 fn main() {
-    hashes::run();
-    header::run();
-    directories::run();
-    segments::run();
-    names::run();
-    images::run();
-    places::run();
-    walks::run();
-    queries::run();
-    steps::run();
-    numberings::run();
+    let mut script = [0u8; 65536];
+    let n = io::read_full(STDIN_FILENO, &mut script);
+    let mut cache = [0u8; 262400];
+    let mut kept = [0u8; 256];
+    run(&script[..n], &mut cache, &mut kept);
 }

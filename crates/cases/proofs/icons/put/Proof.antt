@@ -1,11 +1,11 @@
--- `cases::walks::put_icons` is safe and ends: one icon each turn. The cache keeps its length.
+-- `cases::icons::put` is safe and ends: one icon each turn. The cache keeps its length.
 -- Assumes nothing.
 use Prim.Native.Nat.{_-_}
 use mathlib.Core.Path.{_≡_}
 use lib.ListN.{length}
 use borrow.Author.Needs.{needs}
-use Rattle.cases.proofs.walks.put_icons.Statement.{statement}
-use Rattle.cases.proofs.walks.put_icons.Tie as tie
+use Rattle.cases.proofs.icons.put.Statement.{statement}
+use Rattle.cases.proofs.icons.put.Tie as tie
 
 abbrev Inv-loop : tie.InvT-loop
 Inv-loop cache₀ i₀ cache i = length cache ≡ length cache₀
@@ -13,14 +13,12 @@ Inv-loop cache₀ i₀ cache i = length cache ≡ length cache₀
 abbrev μ-loop : tie.MeasureT-loop
 μ-loop cache₀ i₀ cache i = 90 - i
 
-pub put-icons-spec : {M : Type 1} → statement M
-put-icons-spec =
+pub put-spec : {M : Type 1} → statement M
+put-spec =
     tie.close
     (tie.spec
     Inv-loop
     μ-loop
-    (λ c κs. search needs)
-    (λ c κs. search needs)
     (λ c. search needs)
     (λ c κs. search needs)
     (λ c. search needs)
