@@ -1,0 +1,38 @@
+-- More examples, under one proved statement: each rule at its limit, parts that stand in the
+-- header, loops, and the paths of request 4. Every answer was worked out from the documents.
+use Prim.Native.Nat.{ℕ}
+use mathlib.Core.Path.{_≡_}
+use mathlib.Core.List.{List}
+use mathlib.Core.Bool.{_&&_}
+use lib.ListN.{length}
+use lib.Dec.{T}
+use Rattle.format.specs.Layout.{majorField}
+use Rattle.format.specs.Number.{be}
+use Rattle.format.specs.Fault.{_orElse_}
+use Rattle.format.specs.String.{string, extent, isWhole, sameBytes, signed, hashFrom, hashNumbers, hash, allowed}
+use Rattle.format.specs.Segments.{segments, firstPiece, laterPieces, validSegment, allValid}
+use Rattle.format.specs.Header.{headerFault, pathFault, pathsFault, tablesFault}
+use Rattle.format.specs.Record.{imagesFault, nameFault, listFault, recordFault, imageWords}
+use Rattle.format.specs.Chain.{linkFault, follow, chain}
+use Rattle.format.specs.Answer.{refused}
+use Rattle.format.specs.Call.{check, checkBuckets, firstNamed, searchBucket, queryFault, find, withImages, lookup, foundAnswer, answerWords, directoryFault, directory, directoryPath}
+use Rattle.format.specs.Farm.{farm, looped, patched, sameCheck, sameLookup, sameDirectory, holds, all, cow, oat, pig, lent}
+use Rattle.format.specs.Examples.Caches.{small, none, put, header, start, bare, hashLast, twoInHeader, named, pathed, undirected, recordLast}
+use Rattle.format.specs.Examples.Tables.{tableExamples, headerExamples}
+use Rattle.format.specs.Examples.Records.{recordExamples, loopExamples, pathExamples}
+pub mod Caches
+pub mod Tables
+pub mod Records
+
+examples-hold : T (all tableExamples && all headerExamples && all recordExamples && all loopExamples && all pathExamples)
+unfolding all holds tableExamples headerExamples recordExamples loopExamples pathExamples small none put header start bare hashLast twoInHeader named pathed undirected recordLast lent looped patched farm cow oat pig sameCheck sameLookup sameDirectory check checkBuckets firstNamed searchBucket queryFault find withImages lookup foundAnswer answerWords directoryFault directory directoryPath linkFault follow chain recordFault nameFault listFault imagesFault imageWords headerFault segments firstPiece laterPieces validSegment allValid pathFault pathsFault tablesFault _orElse_ extent string isWhole sameBytes signed hashFrom hashNumbers hash allowed be
+examples-hold = tt
+
+-- every buffer of 16,777,217 bytes is refused with 2, and of 16,777,216 with 3 where MAJOR is 2
+too-long : (s : List ℕ) → length s ≡ 16777217 → check s ≡ refused 2 0 0
+unfolding check tablesFault headerFault _orElse_
+too-long s e = simp e
+
+longest : (s : List ℕ) → length s ≡ 16777216 → be 2 s majorField ≡ 2 → check s ≡ refused 3 0 0
+unfolding check tablesFault headerFault _orElse_
+longest s e v = simp (e, v)
