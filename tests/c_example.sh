@@ -1,10 +1,12 @@
-# Compiles the C example against the static library, as C99 and as C++11 and with every warning an error, and compares what both programs
-# print: c_example.sh FOLDER, where the programs may be written.
+# Compiles the C example against the static library, as C99 and as C++11 and with every warning an
+# error, and compares what both programs print: c_example.sh FOLDER, where the programs may be
+# written.
 set -eu
 cd "$(dirname "$0")/.."
 library=target/staticlib/libicon_cache_c.a
-gcc -std=c99 -pedantic -Wall -Wextra -Werror -O2 -o "$1/example_c" bindings/c/example.c "$library"
-g++ -std=c++11 -Wall -Wextra -Werror -O2 -o "$1/example_cpp" -x c++ bindings/c/example.c -x none "$library"
+strict='-Wall -Wextra -Wpedantic -Wconversion -Werror -O2'
+gcc -std=c99 $strict -o "$1/example_c" bindings/c/example.c "$library"
+g++ -std=c++11 $strict -o "$1/example_cpp" -x c++ bindings/c/example.c -x none "$library"
 
 # The path of directory 1 begins at its zero byte.
 sh tests/patched.sh 104 '\000\000\000\161' > "$1/bad_path.cache"
