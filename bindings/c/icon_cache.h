@@ -1,35 +1,50 @@
 /*
  * Reading an icon theme cache (icon-theme.cache): C99, usable from C++.
  *
- * Every function takes any bytes in the cache, any name and any number, and returns an answer number:
+ * Every function takes any bytes in the cache, any name and any number, and
+ * returns an answer number:
  *
- *    0  accepted, found, or handed back             place: 0, or the record found
- *    1  fewer than 12 bytes                         place: 0
- *    2  more than 16,777,216 bytes                  place: 0
- *    3  the version is not 1.0                      place: 0
- *    4  the directory list is not wholly inside, or too long        place: 8
- *    5  the hash is not wholly inside, or has no bucket             place: 4
- *    6  a path is unended, empty, too long or begins with "/"       place: its field in the directory list
- *    7  a record is not wholly inside               place: the field that names it
- *    8  a name is unended, empty or too long        place: record + 4
- *    9  a name stands in another bucket than its hash gives         place: record + 4
- *   10  an image list is not wholly inside, or too long             place: record + 8
- *   11  an image's directory index or flags are not allowed         place: the image
- *   12  the chain never ends                        place: its bucket field
- *   13  the name asked for is empty, over 255 bytes or holds a zero byte      place: 0
- *   14  too little room for the images              place: the image list
- *   15  no directory has that index                 place: 0
- *   16  a piece of a path, cut at each "/", is empty, "." or ".."   place: the path's field in the directory list
- *   26  the position names no bucket, or its count is more than the length less 11        place: 0
- *   27  the flags are above 15, or the numbering is unknown         place: 0
- *   28  no further record                           place: 0
- *   30  no record bears the name                    place: 0
+ *    0  accepted, found, or handed back          place: 0, or the record found
+ *    1  fewer than 12 bytes                      place: 0
+ *    2  more than 16,777,216 bytes               place: 0
+ *    3  the version is not 1.0                   place: 0
+ *    4  the directory list is not wholly         place: 8
+ *       inside, or too long
+ *    5  the hash is not wholly inside, or has    place: 4
+ *       no bucket
+ *    6  a path is unended, empty, too long or    place: its field in the
+ *       begins with "/"                                 directory list
+ *    7  a record is not wholly inside            place: the field that names it
+ *    8  a name is unended, empty or too long     place: record + 4
+ *    9  a name stands in another bucket than     place: record + 4
+ *       its hash gives
+ *   10  an image list is not wholly inside, or   place: record + 8
+ *       too long
+ *   11  an image's directory index or flags are  place: the image
+ *       not allowed
+ *   12  the chain never ends                     place: its bucket field
+ *   13  the name asked for is empty, over 255    place: 0
+ *       bytes or holds a zero byte
+ *   14  too little room for the images           place: the image list
+ *   15  no directory has that index              place: 0
+ *   16  a piece of a path, cut at each "/", is   place: the path's field in the
+ *       empty, "." or ".."                              directory list
+ *   26  the position names no bucket, or its     place: 0
+ *       count is more than the length less 11
+ *   27  the flags are above 15, or the           place: 0
+ *       numbering is unknown
+ *   28  no further record                        place: 0
+ *   30  no record bears the name                 place: 0
  *
  * What the caller owes:
- *  - a pointer that comes with a length points to that many bytes or words, and is not NULL even where the length is 0;
- *  - cache and name are not written to while a call runs, by any thread, and `words` does not overlap them;
- *  - each output pointer points to one object of its own; bucket and count are read too, so a number stands in both.
- * Nothing is kept after a call returns, and nothing is allocated. Calls on different outputs may run at the same time.
+ *  - a pointer that comes with a length points to that many bytes or words, and
+ *    is not NULL even where the length is 0;
+ *  - cache and name are not written to while a call runs, by any thread, and
+ *    `words` does not overlap them;
+ *  - each output pointer points to one object of its own; bucket and count are
+ *    read too, so a number stands in both.
+ * Nothing is kept after a call returns, and nothing is allocated. Calls on
+ * different outputs may run at the same time.
  */
 #ifndef ICON_CACHE_H
 #define ICON_CACHE_H
@@ -42,23 +57,30 @@ extern "C" {
 #endif
 
 /*
- * Checks the whole cache. With any number but 0, *directories and *icons are 0. *opened is the number of icon records that were
- * looked at. With an endless chain in a cache of 16 MiB this takes tens of seconds, with one in 256 KiB less than a second: where somebody
- * waits, do it in a thread of its own or set a smaller limit of length.
+ * Checks the whole cache. With any number but 0, *directories and *icons are 0.
+ * *opened is the number of icon records that were looked at. With an endless
+ * chain in a cache of 16 MiB this takes tens of seconds, with one in 256 KiB
+ * less than a second: where somebody waits, do it in a thread of its own or set
+ * a smaller limit of length.
  */
 uint32_t icon_cache_check(const uint8_t *cache, size_t cache_len,
                           size_t *place, size_t *directories, size_t *icons, size_t *opened);
 
 /*
- * Looks for the icon `name`. With 0, two words for each of the *images images stand at the front of `words`: the directory index times
- * 65,536 plus the flags as they stand in the cache (icon_cache_flags_in tells which they are), then the offset of the image data, and the
- * words beyond are as they were. With any other number all words are as they were. With 14, *images says how many images there are: lend
- * 2 * *images words. With any number but 0 and 14, *images is 0.
+ * Looks for the icon `name`. With 0, two words for each of the *images images
+ * stand at the front of `words`: the directory index times 65,536 plus the
+ * flags as they stand in the cache (icon_cache_flags_in tells which they are),
+ * then the offset of the image data, and the words beyond are as they were.
+ * With any other number all words are as they were. With 14, *images says how
+ * many images there are: lend 2 * *images words. With any number but 0 and 14,
+ * *images is 0.
  *
- * Names are compared byte for byte: two ways to write an accented letter in Unicode are two names.
+ * Names are compared byte for byte: two ways to write an accented letter in
+ * Unicode are two names.
  *
- * An endless chain costs even more time than in the check, tens of seconds at 16 MiB and less than a second at 256 KiB: where somebody
- * waits, do it in a thread of its own or set a smaller limit of length.
+ * An endless chain costs even more time than in the check, tens of seconds at
+ * 16 MiB and less than a second at 256 KiB: where somebody waits, do it in a
+ * thread of its own or set a smaller limit of length.
  */
 uint32_t icon_cache_lookup(const uint8_t *cache, size_t cache_len,
                            const uint8_t *name, size_t name_len,
@@ -69,42 +91,60 @@ uint32_t icon_cache_lookup(const uint8_t *cache, size_t cache_len,
 uint32_t icon_cache_directory(const uint8_t *cache, size_t cache_len, size_t index, size_t *place);
 
 /*
- * The path of directory `index`: the *length bytes of the cache from *start on, without the zero byte after them. With any number but 0
- * both are 0. A path that is given does not begin with "/", and none of its pieces is empty, "." or "..": so, as its text goes, it leads
- * nowhere but below the folder that it is taken from. Only "/" counts as a separator: where "\" is one too, it is the caller's to judge, and
- * so are symbolic links.
+ * The path of directory `index`: the *length bytes of the cache from *start on,
+ * without the zero byte after them. With any number but 0 both are 0. A path
+ * that is given does not begin with "/", and none of its pieces is empty, "."
+ * or "..": so, as its text goes, it leads nowhere but below the folder that it
+ * is taken from. Only "/" counts as a separator: where "\" is one too, it is
+ * the caller's to judge, and so are symbolic links.
  */
 uint32_t icon_cache_directory_path(const uint8_t *cache, size_t cache_len, size_t index,
                                    size_t *start, size_t *length);
 
 /*
- * Hands back the icon records one by one, in the order in which the check meets them. *bucket and *count are the position, read and written: a
- * bucket, and how many records of its chain are passed. Begin with 0 and 0, keep the position between the calls for as long as you like, and
- * stop at any number but 0. With 0, *record is the offset of the next record and the position is the one after it. With any other number
- * *record is 0 and the position is as it came; 28 says that there are no further records. If the check accepts the cache, a walk from 0 and 0
- * hands back each record once.
+ * Hands back the icon records one by one, in the order in which the check meets
+ * them. *bucket and *count are the position, read and written: a bucket, and
+ * how many records of its chain are passed. Begin with 0 and 0, keep the
+ * position between the calls for as long as you like, and stop at any number
+ * but 0. With 0, *record is the offset of the next record and the position is
+ * the one after it. With any other number *record is 0 and the position is as
+ * it came; 28 says that there are no further records. If the check accepts the
+ * cache, a walk from 0 and 0 hands back each record once.
  *
- * The record and those passed on its chain have been judged by 7 to 11, so its name lies inside: 1 to 255 bytes, which begin at the big-endian
- * number of four bytes at *record + 4, and a zero byte after them. Other records and the paths are not judged: in a cache that the check
- * refuses a walk may still hand back records. No step answers 12. On a chain that never ends the records come round and round, until the count
- * is the cache's length less 10, and then the answer is 26. On any cache a walk hands back at most twice as many records as there are bytes.
+ * The record and those passed on its chain have been judged by 7 to 11, so its
+ * name lies inside: 1 to 255 bytes, which begin at the big-endian number of
+ * four bytes at *record + 4, and a zero byte after them. Other records and the
+ * paths are not judged: in a cache that the check refuses a walk may still hand
+ * back records. No step answers 12. On a chain that never ends the records come
+ * round and round, until the count is the cache's length less 10, and then the
+ * answer is 26. On any cache a walk hands back at most twice as many records as
+ * there are bytes.
  *
- * A step passes its chain anew: it opens at most *count + 1 records, those of a later chain counted in. So to list a chain costs the square of its
- * length, and one step on an endless chain can take tens of seconds at 16 MiB. Where nothing has checked the cache, take a page at a time. A chain
- * never ends, and all its records keep the rules, exactly if the step from its bucket and cache_len - 11 answers 0 and leaves *bucket as it was.
+ * A step passes its chain anew: it opens at most *count + 1 records, those of a
+ * later chain counted in. So to list a chain costs the square of its length,
+ * and one step on an endless chain can take tens of seconds at 16 MiB. Where
+ * nothing has checked the cache, take a page at a time. A chain never ends, and
+ * all its records keep the rules, exactly if the step from its bucket and
+ * cache_len - 11 answers 0 and leaves *bucket as it was.
  */
 uint32_t icon_cache_list(const uint8_t *cache, size_t cache_len,
                          size_t *bucket, size_t *count, size_t *place, size_t *record);
 
 /*
- * The flags of an image are a sum that says which files it has. Two numberings are written under the same version, and a cache doesn't say which:
+ * The flags of an image are a sum that says which files it has. Two numberings
+ * are written under the same version, and a cache doesn't say which:
  *
- *    0  bitmap suffix 1, XPM suffix 2, SVG suffix 4, icon file 8: the layout's document, and generators that follow it
- *    1  XPM suffix 1, SVG suffix 2, bitmap suffix 4, icon file 8: GTK's gtk-update-icon-cache
+ *    0  bitmap suffix 1, XPM suffix 2, SVG suffix 4, icon file 8: the layout's
+ *       document, and generators that follow it
+ *    1  XPM suffix 1, SVG suffix 2, bitmap suffix 4, icon file 8: GTK's
+ *       gtk-update-icon-cache
  *
- * icon_cache_flags_in turns raw flags of `numbering`, as a lookup gives them, into those of numbering 0, and icon_cache_flags_out turns them back:
- * one after the other with the same numbering, in either order, they give back any flags from 0 to 15. With 27, for flags above 15 or another
- * numbering, the result is 0. No lookup gives flags above 15. There is no pointer for the place, since it would always be 0.
+ * icon_cache_flags_in turns raw flags of `numbering`, as a lookup gives them,
+ * into those of numbering 0, and icon_cache_flags_out turns them back: one
+ * after the other with the same numbering, in either order, they give back any
+ * flags from 0 to 15. With 27, for flags above 15 or another numbering, the
+ * result is 0. No lookup gives flags above 15. There is no pointer for the
+ * place, since it would always be 0.
  */
 uint32_t icon_cache_flags_in(uint16_t raw, uint32_t numbering, uint16_t *flags);
 uint32_t icon_cache_flags_out(uint16_t flags, uint32_t numbering, uint16_t *raw);
