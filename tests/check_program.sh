@@ -1,5 +1,6 @@
-# Runs the check program on one input: check_program.sh CASE. A case is a shell script that writes the input to standard output; its
-# first line says, after "# ", the line that the program has to print. Files are compared, since $(...) would drop ends of lines.
+# Runs the check program on one input: check_program.sh CASE. A case is a shell script that writes
+# the input to standard output; its first line says, after "# ", the line that the program has to
+# print. Files are compared, since $(...) would drop ends of lines.
 set -eu
 cd "$(dirname "$0")/.."
 work=$(mktemp -d)

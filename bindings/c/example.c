@@ -1,4 +1,7 @@
-/* Checks a cache, prints the images of one icon, each with its directory and flags, and two short pages of the icons: example CACHE NAME */
+/*
+ * Checks a cache, prints the images of one icon, each with its directory and flags, and two short
+ * pages of the icons: example CACHE NAME
+ */
 #include "icon_cache.h"
 
 #include <errno.h>
@@ -7,7 +10,8 @@
 
 #define LARGEST 16777216
 
-static uint8_t cache[LARGEST + 1]; /* with one byte too many the library sees that a file is too large */
+/* With one byte too many the library sees that a file is too large. */
+static uint8_t cache[LARGEST + 1];
 static size_t cache_len;
 static uint32_t words[2 * 1024]; /* a list has at most 1,024 images */
 
@@ -16,7 +20,10 @@ static void say_unreadable(const char *path)
     fprintf(stderr, "%s can't be read: %s\n", path, strerror(errno));
 }
 
-/* Reads the file, or its first bytes where it is too large. A directory can be opened, but not read. */
+/*
+ * Reads the file, or its first bytes where it is too large. A directory can be opened, but not
+ * read.
+ */
 static int read_cache(const char *path)
 {
     FILE *file = fopen(path, "rb");
@@ -72,8 +79,9 @@ static void print_names(uint16_t flags)
 }
 
 /*
- * A cache doesn't say how its generator numbers flags, so both readings are printed, and how GTK would write the first. A lookup gives no flags
- * above 15 and the numberings are known, so the calls don't refuse.
+ * A cache doesn't say how its generator numbers flags, so both readings are printed, and how GTK
+ * would write the first. A lookup gives no flags above 15 and the numberings are known, so the
+ * calls don't refuse.
  */
 static void print_flags(uint16_t raw)
 {
@@ -86,7 +94,10 @@ static void print_flags(uint16_t raw)
     print_names(from_gtk);
 }
 
-/* Only the records that the lookup meets are judged, so it may find a name in a cache that the check refuses. */
+/*
+ * Only the records that the lookup meets are judged, so it may find a name in a cache that the
+ * check refuses.
+ */
 static int lookup(const char *name)
 {
     size_t place, images, opened;
@@ -106,7 +117,10 @@ static int lookup(const char *name)
     return 0;
 }
 
-/* Whatever the cache, the name of a record that was handed back lies inside, and a zero byte ends it. */
+/*
+ * Whatever the cache, the name of a record that was handed back lies inside, and a zero byte ends
+ * it.
+ */
 static const char *name_of(size_t record)
 {
     const uint8_t *field = cache + record + 4;
@@ -114,7 +128,10 @@ static const char *name_of(size_t record)
     return (const char *)cache + name;
 }
 
-/* Prints the next two icons and moves the position behind them. Returns whether there may be more. */
+/*
+ * Prints the next two icons and moves the position behind them. Returns whether there may be
+ * more.
+ */
 static int print_page(size_t *bucket, size_t *count)
 {
     printf("page from bucket %zu, count %zu\n", *bucket, *count);
@@ -130,7 +147,10 @@ static int print_page(size_t *bucket, size_t *count)
     return 1;
 }
 
-/* The position is all that is kept between the pages. On a chain that never ends the same icons come again. */
+/*
+ * The position is all that is kept between the pages. On a chain that never ends the same icons
+ * come again.
+ */
 static void list(void)
 {
     size_t bucket = 0, count = 0;
