@@ -1,8 +1,9 @@
 // A bucket's chain: what its fields lead to, the walk along it, and the search for a name on it.
 ghost use mathlib.Core.Path.{_≡_};
-ghost use mathlib.Core.Bool.{false};
+ghost use mathlib.Core.Bool.{true, false};
 ghost use Prim.Native.Nat.{_+_, _≤_, _<_};
 ghost use lib.ListN.{length};
+ghost use Rattle.format.specs.String.{allowed};
 ghost use Rattle.format.specs.Header.{buckets};
 ghost use Rattle.format.specs.Record.{bucketOf};
 ghost use Rattle.format.specs.Chain.{chainOf};
@@ -64,7 +65,7 @@ pub fn follow(cache: &[u8], t: Tables, bucket: u32, field: usize) -> Next
 fn seek(cache: &[u8], t: Tables, bucket: u32, field: usize, name: &[u8]) -> Seen
     requires { ⌜ TablesOf (now cache) t ⌝ }
     requires { ⌜ field + 4 ≤ length (now cache) ⌝ }
-    requires { ⌜ (length (now name) ≤ 255) × (bucketOf (now cache) (now name) ≡ bucket) ⌝ }
+    requires { ⌜ (allowed (now name) ≡ true) × (bucketOf (now cache) (now name) ≡ bucket) ⌝ }
     ensures { λ r. ⌜ Seeks (now (cache .entry)) (now (name .entry)) bucket field r ⌝ }
 {
     let value = u32_at(cache, field);
@@ -144,10 +145,10 @@ fn unnamed(field: usize, next: Next, opened: usize) -> Found
 pub fn search(cache: &[u8], t: Tables, bucket: u32, name: &[u8]) -> Found
     requires { ⌜ TablesOf (now cache) t ⌝ }
     requires { ⌜ bucket < buckets (now cache) ⌝ }
-    requires { ⌜ (length (now name) ≤ 255) × (bucketOf (now cache) (now name) ≡ bucket) ⌝ }
+    requires { ⌜ (allowed (now name) ≡ true) × (bucketOf (now cache) (now name) ≡ bucket) ⌝ }
     ensures { λ r. ⌜ r ≡ searchBucket (now (cache .entry)) (now (name .entry)) bucket ⌝ }
 {
-    let limit = cache.len() - 11;
+    let limit = cache.len() - 10;
     let first = bucket_field(t, bucket);
     let mut field = first;
     let mut opened = 0;
@@ -158,7 +159,7 @@ pub fn search(cache: &[u8], t: Tables, bucket: u32, name: &[u8]) -> Found
         let Next::Record(record) = next else {
             return unnamed(first, next, opened);
         };
-        if limit < opened {
+        if opened == limit {
             return unnamed(first, next, opened);
         }
         if seen.met {

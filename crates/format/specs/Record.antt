@@ -9,7 +9,7 @@ use Rattle.format.specs.Layout.{entriesAt, nameField, imagesField, image
 use Rattle.format.specs.Number.{be}
 use Rattle.format.specs.Part.{listInside}
 use Rattle.format.specs.Fault.{noFault, unless, _orElse_}
-use Rattle.format.specs.String.{string, extent, isWhole, sameBytes, hash}
+use Rattle.format.specs.String.{string, extent, isWhole, spellsName, hash}
 use Rattle.format.specs.Header.{buckets, directories}
 use Rattle.format.specs.declared.Fault.{Fault}
 
@@ -69,7 +69,7 @@ recordFault s k r = nameFault s k r orElse listFault s r
 
 -- the record r has a whole name, and it is `name`
 abbrev pub bearsName : List ℕ → ℕ → List ℕ → Bool
-bearsName s r name = validName s r && sameBytes (nameOf s r) name
+bearsName s r name = spellsName (namePart s r) name
 
 -- the first word of the image at p: its index times 65,536 plus its flags
 abbrev pub firstWord : List ℕ → ℕ → ℕ

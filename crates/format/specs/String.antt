@@ -39,6 +39,10 @@ sameBytes [] (b ∷ t) = false
 sameBytes (a ∷ s) [] = false
 sameBytes (a ∷ s) (b ∷ t) = eqb a b && sameBytes s t
 
+-- the string at the front of t is whole, as a name, and is `name`
+abbrev pub spellsName : List ℕ → List ℕ → Bool
+spellsName t name = isWhole (extent longestName t) && sameBytes (string t) name
+
 -- a byte as a signed number, modulo 2^32: 128 to 255 count as -128 to -1 (request 1; in document 01
 -- bytes count as 0 to 255)
 unfoldable pub signed : ℕ → ℕ

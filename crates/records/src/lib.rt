@@ -6,6 +6,7 @@ ghost use Prim.Native.Nat.{_+_, _*_, _^_, _≤_, _<_};
 ghost use lib.ListN.{length, drop};
 ghost use Rattle.format.specs.Number.{be};
 ghost use Rattle.format.specs.Fault.{noFault};
+ghost use Rattle.format.specs.String.{allowed};
 ghost use Rattle.format.specs.Header.{directories};
 ghost use Rattle.format.specs.Record.{namePart, bearsName, validImageList, validImage, imagesFault, nameFault, listFault, recordFault, firstWord, imageWords};
 ghost use Rattle.tables.specs.Tables.{TablesOf};
@@ -180,13 +181,13 @@ pub fn judge(cache: &[u8], t: Tables, bucket: u32, record: usize, known: bool) -
     judge_images(cache, t, record)
 }
 
-// Whether `record` has a whole name and it is `name`.
+// Whether `record` has a whole name and it is `name`, one that may be asked for.
 pub fn bears(cache: &[u8], record: usize, name: &[u8]) -> bool
-    requires { ⌜ («record» + 12 ≤ length (now cache)) × (length (now name) ≤ 255) ⌝ }
+    requires { ⌜ («record» + 12 ≤ length (now cache)) × (allowed (now name) ≡ true) ⌝ }
     ensures { λ r. ⌜ r ≡ bearsName (now (cache .entry)) «record» (now (name .entry)) ⌝ }
 {
     let part = name_part(cache, record);
-    strings::same(part, name)
+    strings::spells(part, name)
 }
 
 // Puts the two words of each of `m` images from `at` on into `words`, from the last image to the

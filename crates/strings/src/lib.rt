@@ -2,10 +2,10 @@
 // segments; whether a name is the one asked for, and whether it may be asked for. A string is
 // handed over as the part of the buffer from its offset on.
 ghost use mathlib.Core.Path.{_≡_};
-ghost use mathlib.Core.Bool.{_&&_};
+ghost use mathlib.Core.Bool.{true, _&&_};
 ghost use Prim.Native.Nat.{_-_, _*_, _%_, _^_, _≤_};
 ghost use lib.ListN.{length, take, drop};
-ghost use Rattle.format.specs.String.{string, extent, isWhole, sameBytes, hash, allowed};
+ghost use Rattle.format.specs.String.{string, extent, spellsName, hash, allowed};
 ghost use Rattle.format.specs.String as definition;
 ghost use Rattle.format.specs.Segments.{validSegment, validSegments};
 use format::Extent;
@@ -178,26 +178,24 @@ pub fn read_path(part: &[u8]) -> Path
     }
 }
 
-// Whether the string at the front of `part` is whole and is `name`: as long, and byte for byte the
-// same.
-pub fn same(part: &[u8], name: &[u8]) -> bool
-    requires { ⌜ length (now name) ≤ 255 ⌝ }
-    ensures { λ r. ⌜ r ≡ (isWhole (extent 255 (now (part .entry))) && sameBytes (string (now (part .entry))) (now (name .entry))) ⌝ }
+// Whether the string at the front of `part` is whole and is `name`, one that may be asked for. Such
+// a name has no zero byte, so the part has to begin with the name and a zero byte.
+pub fn spells(part: &[u8], name: &[u8]) -> bool
+    requires { ⌜ allowed (now name) ≡ true ⌝ }
+    ensures { λ r. ⌜ r ≡ spellsName (now (part .entry)) (now (name .entry)) ⌝ }
 {
+    let end = name.len();
+    if part.len() <= end {
+        return false;
+    }
     let mut i = 0;
-    while i < part.len() {
-        if part[i] == 0 {
-            return if i == 0 { false } else { i == name.len() };
-        }
-        if i == name.len() {
-            return false;
-        }
+    while i < end {
         if part[i] != name[i] {
             return false;
         }
         i += 1;
     }
-    false
+    part[end] == 0
 }
 
 // Whether `name` may be asked for, with 1 to 255 bytes and none of them zero, and its hash.

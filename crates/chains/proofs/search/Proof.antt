@@ -34,8 +34,8 @@ searchChain s name k c o = firstNamed s name (c .records) o (unnamed (bucketFiel
 abbrev Inv-loop : tie.InvT-loop
 Inv-loop cache t bucket name limit first field₀ opened₀ field opened =
     (field + 4 ≤ length cache)
-    × (opened ≤ limit)
-    × (searchChain cache name bucket (chain (limit - opened) cache bucket field) opened ≡ searchBucket cache name bucket)
+    × (opened ≤ mostRecords cache)
+    × (searchChain cache name bucket (chain (mostRecords cache - opened) cache bucket field) opened ≡ searchBucket cache name bucket)
 
 abbrev μ-loop : tie.MeasureT-loop
 μ-loop cache t bucket name limit first field₀ opened₀ field opened = limit - opened
@@ -114,13 +114,13 @@ returns-2 c =
 returns-3 : tie.Need-returns-3 Inv-loop μ-loop
 returns-3 c =
     let told = c .before .before in
-    rw (one told) (met _ _ _ _ _ _ (led told) (sym (bears told) ∙ c .if2 .taken) ∙ more told (omega (arith, one told)))
+    rw (one told) (met _ _ _ _ _ _ (led told) (sym (bears told) ∙ c .if2 .taken) ∙ more told (omega (arith, one told, valid-header (start (turn told) .pre .0))))
 
 loop-again : tie.Need-loop-again Inv-loop μ-loop
 loop-again c =
     let told = c .before .before in
-    let rest = unmet _ _ _ _ _ _ (led told) (sym (bears told) ∙ c .if2 .left) ∙ more told (omega (arith, one told)) in
-    rw (one told) (omega (arith, follow-keeps _ _ _ (led told) .1 .inside), omega (arith, one told), rest)
+    let rest = unmet _ _ _ _ _ _ (led told) (sym (bears told) ∙ c .if2 .left) ∙ more told (omega (arith, one told, valid-header (start (turn told) .pre .0))) in
+    rw (one told) (omega (arith, follow-keeps _ _ _ (led told) .1 .inside), omega (arith, one told, valid-header (start (turn told) .pre .0)), rest)
 
 pub search-spec : {M : Type 1} → statement M
 search-spec =
@@ -140,5 +140,5 @@ search-spec =
     (λ c κs. search needs)
     returns-2
     returns-3
-    (λ c. omega (arith, one (c .before .before)))
+    (λ c. omega (arith, one (c .before .before), valid-header (start (turn (c .before .before)) .pre .0)))
     loop-again)

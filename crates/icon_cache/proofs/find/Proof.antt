@@ -12,7 +12,6 @@ use Rattle.format.specs.String.{allowed}
 use Rattle.format.specs.Header.{headerFault}
 use Rattle.format.specs.Record.{bucketOf}
 use Rattle.format.specs.Laws.Faults.{same-number}
-use Rattle.format.specs.Laws.Names.{allowed-short}
 use Rattle.format.specs.Laws.Hashes.{allowed-hash, hash-bucket}
 use Rattle.format.specs.Laws.Lookup.{query-unallowed, query-allowed, find-refuses, find-searches}
 use Rattle.tables.specs.Laws.{valid-header, same-buckets}
@@ -50,7 +49,7 @@ search-requires : tie.Need-search-requires
 search-requires c κs =
     let read = c .before .before in
     let below = mod-lt _ (valid-header (read .read .ensures) .buckets-some) in
-    (read .read .ensures, (rw (bucket-is c) below, (allowed-short _ (may-be (read .before .before .before .before)), sym (bucket-is c))))
+    (read .read .ensures, (rw (bucket-is c) below, (may-be (read .before .before .before .before), sym (bucket-is c))))
 
 returns-3 : tie.Need-returns-3
 returns-3 c =
