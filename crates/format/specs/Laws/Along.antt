@@ -45,9 +45,12 @@ module _ (s : List ℕ) (k : ℕ) where
   step-keeps : (n : ℕ) → KeepsAt s k n → follow s k (linkField s k n) ≡ Record (link s k n)
   step-keeps n h = rw (reads-link s k n) at (follow-leads s k (linkField s k n) (to-record (rw reads-link (h .0)) (rw reads-link (h .1))))
 
-  -- how many records are opened on such a chain
-  pub counted : (n : ℕ) {c : Chain} {l : Next} → c ≡ chained (links s k n) l → openedOn c ≡ n + opens l
-  counted n {l = l} e = ap openedOn e ∙ ap (λ m. m + opens l) (links-length s k n)
+  -- how many records such a chain has, and how many of it are opened
+  pub counted : (n : ℕ) {c : Chain} {l : Next} → c ≡ chained (links s k n) l → length (c .records) ≡ n
+  counted n e = ap (λ (c : Chain). length (c .records)) e ∙ links-length s k n
+
+  pub opened-on : (n : ℕ) {c : Chain} {l : Next} → c ≡ chained (links s k n) l → openedOn c ≡ n + opens l
+  opened-on n {l = l} e = ap openedOn e ∙ ap (λ m. m + opens l) (links-length s k n)
 
   -- past n records that keep the rules
   pub chain-along : (n m : ℕ) {N : ℕ} → N ≡ n + m → KeepsBelow s k n → chainOf s k N ≡ before (links s k n) (chain m s k (linkField s k n))

@@ -13,7 +13,7 @@ use Rattle.format.specs.Words.{KeepsAt, KeepsBelow, Holds, Breaks, Table
 use Rattle.format.specs.declared.Fault.{Fault}
 use Rattle.format.specs.declared.Next.the-variants.{End, Broken, Record}
 use Rattle.format.specs.Laws.Faults.{kept-takes, broken-takes}
-use Rattle.format.specs.Laws.Along.{counted, after-is, holds-chain, breaks-chain, keeps-chain}
+use Rattle.format.specs.Laws.Along.{opened-on, after-is, holds-chain, breaks-chain, keeps-chain}
 use Rattle.format.specs.Laws.Links.{Repeat, once, never-breaks}
 use Rattle.format.specs.Laws.Apart.{Apart, visits, visits-length, apart-none, apart-length, apart-chain, apart-few}
 
@@ -79,7 +79,7 @@ module _ {s : List ℕ} (len : ℕ → ℕ) where
       let below : Lengths s k len = λ j l. h j (omega arith) in
       let l : len k ≤ mostRecords s - sum len k = omega (arith, few below (g .keeps) (once g)) in
       let c = holds-chain s k l g in
-      check-along k (suc m) (omega arith) below ∙ bucket-ends s m k (sum len k) (omega (arith, counted s k _ c)) (after-is c)
+      check-along k (suc m) (omega arith) below ∙ bucket-ends s m k (sum len k) (omega (arith, opened-on s k _ c)) (after-is c)
 
   pub answers-accepted : TablesKept s → Lengths s (buckets s) len → check s ≡ accepted (directories s) (sum len (buckets s))
   unfolding checkBuckets
@@ -94,11 +94,11 @@ module _ {s : List ℕ} (len : ℕ → ℕ) where
       let (m, e) = check-to l tables-kept h in
       let g : n ≤ mostRecords s - sum len k = omega (arith, few h (b .keeps) (λ c. never-breaks c b)) in
       let c = breaks-chain s k g b in
-      e ∙ bucket-breaks s m k (sum len k) (omega (arith, counted s k _ c)) (after-is c)
+      e ∙ bucket-breaks s m k (sum len k) (omega (arith, opened-on s k _ c)) (after-is c)
 
   pub answers-loop : {k : ℕ} → 12 ≤ length s → k < buckets s → TablesKept s → Lengths s k len → ((n : ℕ) → KeepsAt s k n)
       → check s ≡ refused 12 (bucketField s k) (length s - 10)
   answers-loop {k} long l tables-kept h all =
       let (m, e) = check-to l tables-kept h in
       let c = keeps-chain s k {N = mostRecords s - sum len k} (λ n g. all n) in
-      e ∙ bucket-goes-on s m k (sum len k) (omega (arith, counted s k _ c, total h)) (after-is c)
+      e ∙ bucket-goes-on s m k (sum len k) (omega (arith, opened-on s k _ c, total h)) (after-is c)

@@ -23,7 +23,7 @@ use Rattle.format.specs.Laws.Rules.{tables-keep-header, tables-number}
 use Rattle.format.specs.Laws.Follow.{at-most-one}
 use Rattle.format.specs.Laws.Links.{on-chain, chain-on, one-step, keeps-bucket, never-breaks, broken-number}
 use Rattle.format.specs.Laws.Buckets.{lengths, few, total, check-refuses, answers-accepted, answers-broken, answers-loop}
-use Rattle.format.specs.Laws.Verdict.{Verdict, tables-broken, right, broken, looped, verdict, tables-long, turns-keep}
+use Rattle.format.specs.Laws.Verdict.{Verdict, tables-broken, all-hold, broken, looped, verdict, tables-long, turns-keep}
 use Rattle.format.specs.Laws.Search.{sought}
 use Rattle.format.specs.Laws.Lookup.{query-allowed}
 use Rattle.format.specs.Laws.LookupAnswers.{InChain, in-chain}
@@ -38,9 +38,6 @@ module _ {s : List ℕ} where
   accepts : Accepted s → (len : ℕ → ℕ) → Lengths s (buckets s) len → check s ≡ accepted (directories s) (sum len (buckets s))
   accepts acc len h = answers-accepted len (acc .tables-kept) h
 
-  breaks : {k n x p : ℕ} (len : ℕ → ℕ) → k < buckets s → TablesKept s → Lengths s k len → Breaks s k n x p → check s ≡ refused x p (sum len k + n + itself x)
-  breaks len l tables-kept h b = answers-broken len l tables-kept h b
-
   loops : {k : ℕ} → Loops s k → check s ≡ refused 12 (bucketField s k) (length s - 10)
   loops l =
       let (len, h) = lengths (l .held) in
@@ -48,26 +45,26 @@ module _ {s : List ℕ} where
 
   opens : Verdict s → check s .opened ≤ length s - 10
   opens (tables-broken e) = omega (arith, opened (check-refuses s e (λ z. omega arith)))
-  opens (right acc) =
+  opens (all-hold acc) =
       let (len, h) = lengths acc in
       omega (arith, opened (accepts acc len h), total len h)
   opens (broken {x = x} l held b) =
       let (len, h) = lengths held in
-      omega (arith, opened (breaks len l (held .tables-kept) h b), few len h (b .keeps) (λ c. never-breaks c b), at-most-one x, tables-long s (held .tables-kept))
+      omega (arith, opened (answers-broken len l (held .tables-kept) h b), few len h (b .keeps) (λ c. never-breaks c b), at-most-one x, tables-long s (held .tables-kept))
   opens (looped l) = omega (arith, opened (loops l))
 
   loop-of : Verdict s → check s .number ≡ 12 → (k : ℕ) × Loops s k
   loop-of (tables-broken e) q =
       let told = number (check-refuses s e (λ z. omega arith)) in
       absurd (never 12 (tables-number s) refl (same-number e ∙ sym told ∙ q))
-  loop-of (right acc) q = let (len, h) = lengths acc in absurd (omega (arith, number (accepts acc len h)))
-  loop-of (broken l held b) q = let (len, h) = lengths held in absurd (never 12 (broken-number b) refl (sym (number (breaks len l (held .tables-kept) h b)) ∙ q))
+  loop-of (all-hold acc) q = let (len, h) = lengths acc in absurd (omega (arith, number (accepts acc len h)))
+  loop-of (broken l held b) q = let (len, h) = lengths held in absurd (never 12 (broken-number b) refl (sym (number (answers-broken len l (held .tables-kept) h b)) ∙ q))
   loop-of (looped {k = k} l) q = (k, l)
 
   accepted-of : Verdict s → check s .number ≡ 0 → Accepted s
   accepted-of (tables-broken e) q = absurd (omega (arith, number (check-refuses s e (λ z. omega arith))))
-  accepted-of (right acc) q = acc
-  accepted-of (broken l held b) q = let (len, h) = lengths held in absurd (omega (arith, number (breaks len l (held .tables-kept) h b), b .some))
+  accepted-of (all-hold acc) q = acc
+  accepted-of (broken l held b) q = let (len, h) = lengths held in absurd (omega (arith, number (answers-broken len l (held .tables-kept) h b), b .some))
   accepted-of (looped l) q = absurd (omega (arith, number (loops l)))
 
   module _ (acc : Accepted s) where
@@ -103,7 +100,7 @@ pub check-answers : (s : List ℕ) → CheckAnswers s
 check-answers s = record {
   accepts = accepts;
   refuses-tables = λ x p e. check-refuses s e (λ z. omega arith);
-  refuses-record = λ k n x p len l tables-kept h b. breaks len l tables-kept h b;
+  refuses-record = λ k n x p len l tables-kept h b. answers-broken len l tables-kept h b;
   refuses-loop = λ k l. loops l;
 }
 

@@ -20,7 +20,7 @@ use Rattle.format.specs.Laws.Buckets.{lengths, chains}
 
 pub data Verdict (s : List ℕ) : Type 0 where
   tables-broken : {x p : ℕ} → tablesFault s ≡ fault (suc x) p → Verdict s
-  right : Accepted s → Verdict s
+  all-hold : Accepted s → Verdict s
   broken : {k n x p : ℕ} → k < buckets s → HeldBefore s k → Breaks s k n x p → Verdict s
   looped : {k : ℕ} → Loops s k → Verdict s
 
@@ -54,5 +54,5 @@ pub verdict : (s : List ℕ) → Verdict s
 verdict s = go (tablesFault s .number) refl
   where
     go : (m : ℕ) → tablesFault s .number ≡ m → Verdict s
-    go zero e = elim (through s e (buckets s) (le-refl (buckets s))) [ inl held ↦ right held | inr v ↦ v ]
+    go zero e = elim (through s e (buckets s) (le-refl (buckets s))) [ inl held ↦ all-hold held | inr v ↦ v ]
     go (suc x) e = tables-broken {x = x} {p = tablesFault s .place} (rw (← e))

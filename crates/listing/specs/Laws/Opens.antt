@@ -7,7 +7,7 @@ use native.Mathlib.Omega.{arith}
 use Rattle.format.specs.Chain.{chainOf, openedOn}
 use Rattle.format.specs.declared.Next.the-variants.{End, Broken, Record}
 use Rattle.format.specs.Laws.Follow.{at-most-one}
-use Rattle.format.specs.Laws.Along.{counted, after-is, holds-chain, breaks-chain, keeps-chain}
+use Rattle.format.specs.Laws.Along.{opened-on, after-is, holds-chain, breaks-chain, keeps-chain}
 use Rattle.format.specs.Laws.Course.{Course, ends, breaks, goes-on, course}
 use Rattle.listing.specs.Paging.{onwardOpens, stepOpens}
 use Rattle.listing.specs.declared.Position.{Position}
@@ -28,10 +28,10 @@ module _ (s : List ℕ) (n k c : ℕ) where
 
 module _ (s : List ℕ) where
   one-bucket : (n k c : ℕ) → Course s k c → onwardOpens n s (suc k) 0 ≤ 1 → onwardOpens (suc n) s k c ≤ suc c
-  one-bucket n k c (ends {n = m} l h) rest = let w = holds-chain s k l h in omega (arith, opens-ends s n k c (after-is w), counted s k m w)
+  one-bucket n k c (ends {n = m} l h) rest = let w = holds-chain s k l h in omega (arith, opens-ends s n k c (after-is w), opened-on s k m w)
   one-bucket n k c (breaks {n = m} {x = x} l b) rest =
-      let w = breaks-chain s k l b in omega (arith, opens-breaks s n k c (after-is w), counted s k m w, at-most-one x)
-  one-bucket n k c (goes-on keeps) rest = let w = keeps-chain s k keeps in omega (arith, opens-gives s n k c (after-is w), counted s k c w)
+      let w = breaks-chain s k l b in omega (arith, opens-breaks s n k c (after-is w), opened-on s k m w, at-most-one x)
+  one-bucket n k c (goes-on keeps) rest = let w = keeps-chain s k keeps in omega (arith, opens-gives s n k c (after-is w), opened-on s k c w)
 
   onward-opens : (n k c : ℕ) → onwardOpens n s k c ≤ suc c
   unfolding onwardOpens
