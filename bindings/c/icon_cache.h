@@ -43,8 +43,9 @@
  *    `words` does not overlap them;
  *  - each output pointer points to one object of its own; bucket and count are
  *    read too, so a number stands in both.
- * Nothing is kept after a call returns, and nothing is allocated. Calls on
- * different outputs may run at the same time.
+ * Nothing is kept after a call returns, nothing is allocated, and no call takes
+ * more than 500 bytes of stack. Calls on different outputs may run at the same
+ * time.
  */
 #ifndef ICON_CACHE_H
 #define ICON_CACHE_H
@@ -60,8 +61,8 @@ extern "C" {
  * Checks the whole cache. With any number but 0, *directories and *icons are 0.
  * *opened is the number of icon records that were looked at. With an endless
  * chain in a cache of 16 MiB this takes tens of seconds, with one in 256 KiB
- * less than a second: where somebody waits, do it in a thread of its own or set
- * a smaller limit of length.
+ * less than a second: do it in a thread of its own, or set a smaller limit of
+ * length.
  */
 uint32_t icon_cache_check(const uint8_t *cache, size_t cache_len,
                           size_t *place, size_t *directories, size_t *icons, size_t *opened);
@@ -79,8 +80,8 @@ uint32_t icon_cache_check(const uint8_t *cache, size_t cache_len,
  * Unicode are two names.
  *
  * An endless chain costs even more time than in the check, tens of seconds at
- * 16 MiB and less than a second at 256 KiB: where somebody waits, do it in a
- * thread of its own or set a smaller limit of length.
+ * 16 MiB and less than a second at 256 KiB: do it in a thread of its own, or
+ * set a smaller limit of length.
  */
 uint32_t icon_cache_lookup(const uint8_t *cache, size_t cache_len,
                            const uint8_t *name, size_t name_len,

@@ -96,8 +96,8 @@ pub struct Found {
 /// Checks the whole cache.
 ///
 /// With an endless chain in a cache of 16 MiB this takes tens of seconds, with
-/// one in 256 KiB less than a second: where somebody waits, do it in a thread of
-/// its own or set a smaller limit of length.
+/// one in 256 KiB less than a second: do it in a thread of its own, or
+/// set a smaller limit of length.
 ///
 /// ```
 /// use icon_cache::{check, Refusal, FARM_CACHE};
@@ -134,8 +134,8 @@ pub fn check(cache: &[u8]) -> Result<Checked, Refusal> {
 /// byte: two ways to write an accented letter in Unicode are two names.
 ///
 /// An endless chain costs it even more time than it costs [`check`], tens of
-/// seconds at 16 MiB and less than a second at 256 KiB: where somebody waits, do
-/// it in a thread of its own or set a smaller limit of length.
+/// seconds at 16 MiB and less than a second at 256 KiB: do it in a thread of
+/// its own, or set a smaller limit of length.
 ///
 /// ```
 /// use icon_cache::{lookup, Refusal, FARM_CACHE};
