@@ -29,14 +29,14 @@ pub struct Walked {
 // What a field leads to, and whether that is a record that bears the name looked for.
 struct Seen {
     next: Next,
-    met: bool,
+    bears: bool,
 }
 
-// No such record.
-fn unmet(next: Next) -> Seen
+// No record that bears it.
+fn nameless(next: Next) -> Seen
     ensures { λ r. ⌜ r ≡ seen next false ⌝ }
 {
-    Seen { next, met: false }
+    Seen { next, bears: false }
 }
 
 // What the field at `field` leads to on the chain of `bucket`.
@@ -60,8 +60,8 @@ pub fn follow(cache: &[u8], t: Tables, bucket: u32, field: usize) -> Next
     Next::Record(record)
 }
 
-// The same, with a name of this bucket to look for. It is compared before it is judged: the one
-// looked for keeps rules 8 and 9, so a record that bears it need not be read twice.
+// The same, with a name of this bucket to look for. The record's name is compared with it first: one
+// that is equal keeps rules 8 and 9, and isn't read again.
 fn seek(cache: &[u8], t: Tables, bucket: u32, field: usize, name: &[u8]) -> Seen
     requires { ⌜ TablesOf (now cache) t ⌝ }
     requires { ⌜ field + 4 ≤ length (now cache) ⌝ }
@@ -70,19 +70,19 @@ fn seek(cache: &[u8], t: Tables, bucket: u32, field: usize, name: &[u8]) -> Seen
 {
     let value = u32_at(cache, field);
     if value == 0xFFFF_FFFF {
-        return unmet(Next::End);
+        return nameless(Next::End);
     }
     let record = value as usize;
     if cache.len() < record + 12 {
-        return unmet(Next::Broken(7, field));
+        return nameless(Next::Broken(7, field));
     }
-    let met = bears(cache, record, name);
-    let verdict = judge(cache, t, bucket, record, met);
-    if verdict.number != 0 {
-        return unmet(Next::Broken(verdict.number, verdict.place));
+    let bears = bears(cache, record, name);
+    let fault = judge(cache, t, bucket, record, bears);
+    if fault.number != 0 {
+        return nameless(Next::Broken(fault.number, fault.place));
     }
     let next = Next::Record(record);
-    Seen { next, met }
+    Seen { next, bears }
 }
 
 // How many records are opened to see what comes next: the one that is named, if it lies inside.
@@ -162,7 +162,7 @@ pub fn search(cache: &[u8], t: Tables, bucket: u32, name: &[u8]) -> Found
         if opened == limit {
             return unnamed(first, next, opened);
         }
-        if seen.met {
+        if seen.bears {
             return Found {
                 number: 0,
                 place: record,

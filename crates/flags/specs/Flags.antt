@@ -1,8 +1,10 @@
--- The flags of an image in two numberings, and what the calls answer that turn one into the other.
+-- The flags of an image in two numberings, and what the calls answer that turn one into the other:
+-- document 02, request 5.
 use Prim.Native.Nat.{ℕ, zero, suc, _+_, _*_, _/_, _%_, _^_}
 use mathlib.Core.Path.{_≡_}
 use mathlib.Core.Bool.{Bool, _&&_}
 use lib.Dec.{leb}
+use Rattle.format.specs.Layout.{mostFlags}
 use Rattle.format.specs.Fault.{unless, ifKept}
 use Rattle.flags.specs.declared.FlagsAnswer.{FlagsAnswer}
 
@@ -54,7 +56,7 @@ known k = leb k 1
 
 -- the flags x are 0 to 15, and both numberings are known
 abbrev pub validFlags : ℕ → ℕ → ℕ → Bool
-validFlags x j k = leb x 15 && known j && known k
+validFlags x j k = leb x mostFlags && known j && known k
 
 abbrev pub flagsIs : ℕ → ℕ → ℕ → FlagsAnswer
 flagsIs n p x = record { number = n; place = p; flags = x }
@@ -63,8 +65,8 @@ flagsIs n p x = record { number = n; place = p; flags = x }
 -- and the result is then 0
 unfoldable pub answer : ℕ → ℕ → ℕ → FlagsAnswer
 answer x j k =
-    let f = unless (validFlags x j k) 27 0 in
-    flagsIs (f .number) (f .place) (ifKept f (renumbered (numbering j) (numbering k) x) 0)
+    let v = unless (validFlags x j k) 27 0 in
+    flagsIs (v .number) (v .place) (ifKept v (renumbered (numbering j) (numbering k) x) 0)
 
 -- the two calls: raw flags of the numbering k in document 01's, and back
 abbrev pub flagsIn : ℕ → ℕ → FlagsAnswer

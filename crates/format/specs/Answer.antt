@@ -1,4 +1,4 @@
--- The answers of the calls: what stands in them with number 0, and with any other.
+-- The answers of the calls, with number 0 and with any other: document 01, 'Answer numbers'.
 use Prim.Native.Nat.{ℕ}
 use Rattle.format.specs.declared.CheckAnswer.{CheckAnswer}
 use Rattle.format.specs.declared.Found.{Found}
@@ -6,7 +6,8 @@ use Rattle.format.specs.declared.LookupAnswer.{LookupAnswer}
 use Rattle.format.specs.declared.DirectoryAnswer.{DirectoryAnswer}
 use Rattle.format.specs.declared.DirectoryPart.{DirectoryPart}
 
--- the check, whole: d directories and i icons, each of them opened; or rule x at p, after o records
+-- the check's answer; accepted, with d directories and i icons, each opened; refused by rule x at p,
+-- after o records
 abbrev pub checked : ℕ → ℕ → ℕ → ℕ → ℕ → CheckAnswer
 checked n p d i o = record { number = n; place = p; directories = d; icons = i; opened = o }
 

@@ -39,12 +39,13 @@ check s =
     let v = tablesFault s in
     ifKept v (checkBuckets (buckets s) s 0 0) (refused (v .number) (v .place) 0)
 
--- the first of the records that bears the name, with o records opened before them, or a if none does
+-- the first of the records to bear the name, after o opened ones, or a if none does
 unfoldable pub firstNamed : List ℕ → List ℕ → List ℕ → ℕ → Found → Found
 firstNamed s name [] o a = a
 firstNamed s name (r ∷ rs) o a = if sameBytes (nameOf s r) name then found r (o + 1) else firstNamed s name rs (o + 1) a
 
--- no record of a chain does: what comes after them decides; f is the bucket's field
+-- the answer where no record of a chain bears the name, by what comes after them; f is the bucket's
+-- field
 abbrev pub unnamed : ℕ → Next → ℕ → Found
 unnamed f End o = unfound 30 0 o
 unnamed f (Broken x p) o = unfound x p o
@@ -84,7 +85,8 @@ withImages s room a =
 unfoldable pub lookup : List ℕ → List ℕ → ℕ → LookupAnswer
 lookup s name room = withImages s room (find s name)
 
--- the lent words after an answer: with number 0 the images' words, then what was there; else what was there
+-- the lent words after an answer: with number 0 the images' words and then what was there, else what
+-- was there
 unfoldable pub answerWords : List ℕ → List ℕ → LookupAnswer → List ℕ
 answerWords s words a =
     elim (a .number) [

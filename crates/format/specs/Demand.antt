@@ -28,7 +28,7 @@ pub record LookupDemand (s name : List ℕ) (a : LookupAnswer) : Type 0 where
   pub opens : (n : ℕ) → Holds s (bucketOf s name) n → a .opened ≤ n
   pub absent : (a .number ≡ 30) ↔ ((k n r : ℕ) → k < buckets s → OnChain s k n r → nameOf s r ≡ name → ⊥)
 
--- and of any lookup: it is asked for in an accepted cache and of an allowed name
+-- and of any lookup, where the cache is accepted and the name allowed
 abbrev pub LookupKept : List ℕ → List ℕ → LookupAnswer → Type 0
 LookupKept s name a = Accepted s → allowed name ≡ true → LookupDemand s name a
 

@@ -1,5 +1,6 @@
--- More examples, under one proved statement: each rule at its limit, parts that stand in the
--- header, loops, and the paths of request 4. Every answer was worked out from the documents.
+-- More examples, under one proved statement: rules at their limits (the most directories and images
+-- stand in the program `cases`), parts in the header, loops, and the paths of request 4. Every answer
+-- was worked out from the documents.
 use Prim.Native.Nat.{ℕ}
 use mathlib.Core.Path.{_≡_}
 use mathlib.Core.List.{List}

@@ -1,4 +1,5 @@
--- Which rule is broken first, and where. A verdict with number 0 says that none is.
+-- Which rule is broken first, and where: document 01, 'Answer numbers', in the order of checks. A
+-- judgement with number 0 says that none is.
 use Prim.Native.Nat.{ℕ, zero, suc}
 use mathlib.Core.Bool.{Bool, true, false}
 use Rattle.format.specs.declared.Fault.{Fault}
@@ -15,10 +16,10 @@ unless true x p = noFault
 unless false x p = fault x p
 
 infixr 20 _orElse_
--- the first of two verdicts if it names a broken rule, else the second
+-- the first of two judgements if it names a broken rule, else the second
 unfoldable pub _orElse_ : Fault → Fault → Fault
 _orElse_ v w = elim (v .number) [ zero ↦ w | suc x ↦ v ]
 
--- a where the verdict names no broken rule, and b where it names one
+-- a where the judgement names no broken rule, and b where it names one
 abbrev pub ifKept : {A : Type 0} → Fault → A → A → A
 ifKept {A} v a b = elim (v .number) as (λ n. A) [ zero ↦ a | suc x ↦ b ]

@@ -1,4 +1,5 @@
--- The header, the directory list and the hash: document 01's tables; rules 1 to 6, and request 4's 16.
+-- The header, the directory list and the hash: document 01's tables, and request 4. Rules 1 to 6,
+-- and 16.
 use Prim.Native.Nat.{ℕ, zero, suc}
 use mathlib.Core.List.{List}
 use mathlib.Core.Bool.{Bool, not, _&&_}
@@ -70,7 +71,7 @@ pathFault s i =
     unless (validPath s i) 6 (pathField s i)
     orElse unless (validSegments (pathOf s i)) 16 (pathField s i)
 
--- the same on n paths from directory i on
+-- rules 6 and 16 on n paths from directory i on
 unfoldable pub pathsFault : ℕ → List ℕ → ℕ → Fault
 pathsFault zero s i = noFault
 pathsFault (suc n) s i = pathFault s i orElse pathsFault n s (suc i)

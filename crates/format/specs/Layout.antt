@@ -26,10 +26,11 @@ directoriesField = 8
 abbrev pub entriesAt : ℕ → ℕ
 entriesAt p = p + 4
 
--- path offset i of a directory list, or bucket field i of a hash
+-- a path offset or a bucket field
 abbrev pub fieldSize : ℕ
 fieldSize = 4
 
+-- path offset i of the directory list at p, or bucket field i of the hash at p
 abbrev pub entryField : ℕ → ℕ → ℕ
 entryField p i = entriesAt p + fieldSize * i
 

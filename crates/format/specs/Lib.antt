@@ -2,7 +2,7 @@
 -- reader of the contracts has to believe. They are listed in the order in which to read them.
 --
 -- A letter means one thing: s a buffer, k a bucket, r a record (its offset), f a field (its
--- offset), x a rule's number, p a place or another offset, o opened records, v a verdict.
+-- offset), x a rule's number, p a place or another offset, o opened records, v a judgement.
 pub mod Choice
 pub mod Layout
 pub mod Number

@@ -1,4 +1,5 @@
--- Parts that lie wholly inside the buffer. Sums are of numbers without a largest one, so none wraps.
+-- Parts that lie wholly inside the buffer: document 01, 'Answer numbers'. The numbers have no
+-- largest one, so no sum wraps.
 use Prim.Native.Nat.{ℕ, _+_, _*_}
 use mathlib.Core.List.{List}
 use mathlib.Core.Bool.{Bool, _&&_}

@@ -1,4 +1,4 @@
--- An icon record and its images: document 01's tables; rules 8 to 11.
+-- An icon record and its images: document 01's tables. Rules 8 to 11.
 use Prim.Native.Nat.{ℕ, zero, suc, _+_, _*_, _%_}
 use mathlib.Core.List.{List, [], _∷_}
 use mathlib.Core.Bool.{Bool, _&&_}

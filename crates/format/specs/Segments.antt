@@ -31,7 +31,7 @@ segments path = firstPiece path ∷ laterPieces path
 unfoldable pub validSegment : List ℕ → Bool
 validSegment p = not (sameBytes p []) && not (sameBytes p (dot ∷ [])) && not (sameBytes p (dot ∷ dot ∷ []))
 
--- all of them are such
+-- each segment is valid
 unfoldable pub allValid : List (List ℕ) → Bool
 allValid [] = true
 allValid (p ∷ ps) = validSegment p && allValid ps

@@ -61,13 +61,13 @@ pub extern "C" fn icon_cache_directory_path(
     cache: &[u8],
     index: usize,
     start: &mut usize,
-    length: &mut usize,
+    path_length: &mut usize,
 ) -> u32
-    ensures { λ r. ⌜ partIs r (directoryPart (now (cache .entry)) index .place) (now (start .exit)) (now (length .exit)) ≡ directoryPart (now (cache .entry)) index ⌝ }
+    ensures { λ r. ⌜ partIs r (directoryPart (now (cache .entry)) index .place) (now (start .exit)) (now («path_length» .exit)) ≡ directoryPart (now (cache .entry)) index ⌝ }
 {
     let answer = icon_cache::directory_part(cache, index);
     *start = answer.start;
-    *length = answer.length;
+    *path_length = answer.length;
     answer.number
 }
 

@@ -16,7 +16,7 @@ use Rattle.listing.specs.declared.Position.{Position}
 use Rattle.listing.specs.declared.Step.{Step}
 
 unfoldable pub samePosition : Position → Position → Bool
-samePosition q r = eqb (q .bucket) (r .bucket) && eqb (q .count) (r .count)
+samePosition q b = eqb (q .bucket) (b .bucket) && eqb (q .count) (b .count)
 
 -- the step from q answers b
 unfoldable pub answers : List ℕ → Position → Step → Bool

@@ -1,4 +1,5 @@
--- Request 2 of document 02 as definitions.
+-- Request 2 of document 02 as definitions. Beside the letters of `format`, q is a position and c a
+-- count of records passed.
 pub mod Listing
 pub mod Paging
 pub mod Examples

@@ -17,19 +17,19 @@ use Rattle.listing.specs.declared.Step.{Step}
 -- where the chain of a position has no more records, a step goes on at the next bucket
 pub data GoesOn (s : List ℕ) : Position → Position → Type 0 where
   here : {q : Position} → GoesOn s q q
-  on : {q r : Position} {n : ℕ} → Holds s (q .bucket) n → n ≤ q .count → GoesOn s (position (suc (q .bucket)) 0) r → GoesOn s q r
+  on : {q there : Position} {n : ℕ} → Holds s (q .bucket) n → n ≤ q .count → GoesOn s (position (suc (q .bucket)) 0) there → GoesOn s q there
 
 -- the chain of a position has a record more than are passed, and all of them keep the rules
 abbrev pub HasRecord : List ℕ → Position → Type 0
-HasRecord s r = (r .bucket < buckets s) × KeepsBelow s (r .bucket) (suc (r .count))
+HasRecord s there = (there .bucket < buckets s) × KeepsBelow s (there .bucket) (suc (there .count))
 
 -- The answer from a position that is valid, by where the step goes on to.
 pub record RecordAnswers (s : List ℕ) (q : Position) : Type 0 where
-  pub gives : {r : Position} → GoesOn s q r → HasRecord s r
-      → step s q ≡ handsBack (link s (r .bucket) (r .count)) (position (r .bucket) (suc (r .count)))
-  pub refuses-record : {r : Position} {n x p : ℕ} → GoesOn s q r → r .bucket < buckets s → n ≤ r .count → Breaks s (r .bucket) n x p
+  pub gives : {there : Position} → GoesOn s q there → HasRecord s there
+      → step s q ≡ handsBack (link s (there .bucket) (there .count)) (position (there .bucket) (suc (there .count)))
+  pub refuses-record : {there : Position} {n x p : ℕ} → GoesOn s q there → there .bucket < buckets s → n ≤ there .count → Breaks s (there .bucket) n x p
       → step s q ≡ stays x p q
-  pub done : {r : Position} → GoesOn s q r → r .bucket ≡ buckets s → step s q ≡ stays 28 0 q
+  pub done : {there : Position} → GoesOn s q there → there .bucket ≡ buckets s → step s q ≡ stays 28 0 q
 
 -- A step's whole answer in these words: the position is refused, or as the chains from it on are.
 -- One of the cases always stands (`ahead`).

@@ -17,7 +17,7 @@ pub struct Position {
 }
 
 // The answer from a position: with number 0 the next record and the position after it; with any
-// other number 0 and the position as it came.
+// other the record is 0 and the position is as it came.
 pub struct Step {
     pub number: u32,
     pub place: usize,

@@ -41,17 +41,17 @@ abbrev μ-loop : tie.MeasureT-loop
 μ-loop cache t bucket name limit first field₀ opened₀ field opened = limit - opened
 
 module _ (s name : List ℕ) (k f n o : ℕ) where
-  -- a turn of the search: it stops, meets the name, or goes on
+  -- a turn of the search: it stops, finds the name, or goes on
   stopped : {l : Next} → chain n s k f ≡ chained [] l → unnamed (bucketField s k) l (o + opens l) ≡ searchChain s name k (chain n s k f) o
   unfolding firstNamed
   stopped e = rw (e, zero-add)
 
-  met : {r : ℕ} → follow s k f ≡ Record r → sameBytes (nameOf s r) name ≡ true → found r (o + 1) ≡ searchChain s name k (chain (suc n) s k f) o
-  met {r} e same = rw (chain-next s k f n e) (sym (search-met s name r _ o _ (same-equal _ _ same)))
+  found-here : {r : ℕ} → follow s k f ≡ Record r → sameBytes (nameOf s r) name ≡ true → found r (o + 1) ≡ searchChain s name k (chain (suc n) s k f) o
+  found-here {r} e same = rw (chain-next s k f n e) (sym (search-met s name r _ o _ (same-equal _ _ same)))
 
-  unmet : {r : ℕ} → follow s k f ≡ Record r → sameBytes (nameOf s r) name ≡ false
+  goes-on : {r : ℕ} → follow s k f ≡ Record r → sameBytes (nameOf s r) name ≡ false
       → searchChain s name k (chain n s k r) (o + 1) ≡ searchChain s name k (chain (suc n) s k f) o
-  unmet {r} e other =
+  goes-on {r} e other =
       let rest = chain n s k r in
       let more : o + (suc (length (rest .records)) + opens (rest .after)) ≡ o + 1 + openedOn rest = omega arith in
       rw (chain-next s k f n e, more) (sym (search-next s name r _ o _ (other-unequal _ _ other)))
@@ -81,8 +81,8 @@ module _ (c : tie.After-known-told Inv-loop μ-loop) where
   one = c .before .before .before .opens .ensures ∙ ap opens (c .before .next .given .1)
 
   bears : let a = start (turn c) .args in
-      c .before .before .before .before .seek .result .met ≡ sameBytes (nameOf (now (a .cache)) (c .before .next .given .0 .0)) (now (a .name))
-  bears = c .before .before .before .before .seek .ensures .met _ (c .before .next .given .1)
+      c .before .before .before .before .seek .result .bears ≡ sameBytes (nameOf (now (a .cache)) (c .before .next .given .0 .0)) (now (a .name))
+  bears = c .before .before .before .before .seek .ensures .bears _ (c .before .next .given .1)
 
   -- one record more may be passed
   more : turn c .loop .opened < mostRecords (now (start (turn c) .args .cache)) →
@@ -114,12 +114,12 @@ returns-2 c =
 returns-3 : tie.Need-returns-3 Inv-loop μ-loop
 returns-3 c =
     let told = c .before .before in
-    rw (one told) (met _ _ _ _ _ _ (led told) (sym (bears told) ∙ c .if2 .taken) ∙ more told (omega (arith, one told, valid-header (start (turn told) .pre .0))))
+    rw (one told) (found-here _ _ _ _ _ _ (led told) (sym (bears told) ∙ c .if2 .taken) ∙ more told (omega (arith, one told, valid-header (start (turn told) .pre .0))))
 
 loop-again : tie.Need-loop-again Inv-loop μ-loop
 loop-again c =
     let told = c .before .before in
-    let rest = unmet _ _ _ _ _ _ (led told) (sym (bears told) ∙ c .if2 .left) ∙ more told (omega (arith, one told, valid-header (start (turn told) .pre .0))) in
+    let rest = goes-on _ _ _ _ _ _ (led told) (sym (bears told) ∙ c .if2 .left) ∙ more told (omega (arith, one told, valid-header (start (turn told) .pre .0))) in
     rw (one told) (omega (arith, follow-keeps _ _ _ (led told) .1 .inside), omega (arith, one told, valid-header (start (turn told) .pre .0)), rest)
 
 pub search-spec : {M : Type 1} → statement M

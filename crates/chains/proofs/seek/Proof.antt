@@ -1,5 +1,5 @@
 -- `chains::seek` meets its contract: each way out is a case of `Leads`, and a record that bears the
--- name keeps rules 8 and 9 (`met-home`), so `judge` may be told.
+-- name keeps rules 8 and 9 (`bears-home`), so `judge` may be told.
 use Prim.Native.Nat.{ℕ}
 use mathlib.Core.Path.{_≡_, sym, _∙_}
 use mathlib.Core.List.{List}
@@ -8,7 +8,7 @@ use native.Mathlib.Omega.{arith}
 use borrow.Author.Needs.{needs}
 use Rattle.format.specs.Chain.{follow}
 use Rattle.format.specs.Laws.Faults.{same-number}
-use Rattle.format.specs.Laws.Records.{met-home}
+use Rattle.format.specs.Laws.Records.{bears-home}
 use Rattle.format.specs.Laws.Rules.{record-valid}
 use Rattle.format.specs.Laws.Follow.{link-outside, link-inside, to-end, to-broken, to-record, follow-leads}
 use Rattle.format.specs.declared.Next.the-variants.{End, Broken}
@@ -20,22 +20,22 @@ use Rattle.chains.proofs.seek.Tie as tie
 -- the two ways without a record
 module _ (s name : List ℕ) (k f : ℕ) {a : Seen} where
   at-end : a ≡ seen End false → follow s k f ≡ End → Seeks s name k f a
-  at-end e q = rw e (record { next = sym q; met = λ r h. let z : _≡_ {A = ℕ} 0 1 = cc in absurd (omega arith) })
+  at-end e q = rw e (record { next = sym q; bears = λ r h. let z : _≡_ {A = ℕ} 0 1 = cc in absurd (omega arith) })
 
   at-broken : {x p : ℕ} → a ≡ seen (Broken x p) false → follow s k f ≡ Broken x p → Seeks s name k f a
-  at-broken e q = rw e (record { next = sym q; met = λ r h. let z : _≡_ {A = ℕ} 0 1 = cc in absurd (omega arith) })
+  at-broken e q = rw e (record { next = sym q; bears = λ r h. let z : _≡_ {A = ℕ} 0 1 = cc in absurd (omega arith) })
 
 returns-2 : tie.Need-returns-2
 returns-2 c =
     let out = c .before in
     let e = out .before .before .u32-at .ensures in
-    at-broken _ _ _ _ (c .unmet2 .ensures)
+    at-broken _ _ _ _ (c .nameless2 .ensures)
     (follow-leads _ _ _ (to-broken (rw e at (out .before .if1 .left)) (link-outside _ _ _ _ (rw e at (out .if2 .taken))) (omega arith)))
 
 judge-requires : tie.Need-judge-requires
 judge-requires c κs =
     let pre = c .before .before .before .before .before .before .pre in
-    (pre .0, (c .before .if2 .left, λ e. met-home _ _ _ _ (pre .1 .1 .1) (sym (c .bears .ensures) ∙ e)))
+    (pre .0, (c .before .if2 .left, λ e. bears-home _ _ _ _ (pre .1 .1 .1) (sym (c .bears .ensures) ∙ e)))
 
 returns-3 : tie.Need-returns-3
 returns-3 c =
@@ -43,7 +43,7 @@ returns-3 c =
     let e = judged .before .before .before .before .u32-at .ensures in
     let real = rw e at (judged .before .before .before .if1 .left) in
     let broken = link-inside _ _ _ _ (rw e at (judged .before .before .if2 .left)) ∙ sym (rw e at (judged .judge .ensures)) in
-    at-broken _ _ _ _ (c .unmet3 .ensures) (follow-leads _ _ _ (to-broken real broken (omega (arith, c .before .if3 .taken))))
+    at-broken _ _ _ _ (c .nameless3 .ensures) (follow-leads _ _ _ (to-broken real broken (omega (arith, c .before .if3 .taken))))
 
 returns-4 : tie.Need-returns-4
 returns-4 c =
@@ -53,7 +53,7 @@ returns-4 c =
     let rules = same-number (sym (rw e at (judged .judge .ensures))) ∙ c .if3 .left in
     record {
       next = rw e (sym (follow-leads _ _ _ (to-record real (record { inside = rw e at (judged .before .before .if2 .left); rules = rules }))));
-      met = λ r h.
+      bears = λ r h.
           let named = record-valid _ _ _ (same-number (sym (judged .judge .ensures)) ∙ c .if3 .left) .named in
           let q : judged .before .before .before .before .u32-at .result ≡ r = cc in
           judged .before .bears .ensures ∙ rw (named, q);
@@ -65,7 +65,7 @@ seek-spec =
     (tie.spec
     (λ c κs. search needs)
     (λ c κs. search needs)
-    (λ c. at-end _ _ _ _ (c .unmet .ensures) (follow-leads _ _ _ (to-end (sym (c .before .before .u32-at .ensures) ∙ c .before .if1 .taken))))
+    (λ c. at-end _ _ _ _ (c .nameless .ensures) (follow-leads _ _ _ (to-end (sym (c .before .before .u32-at .ensures) ∙ c .before .if1 .taken))))
     (λ c. search needs)
     (λ c. search needs)
     (λ c κs. search needs)

@@ -41,7 +41,7 @@ module _ (s : List ℕ) (r : ℕ) where
   list-kept e = kept-passes (validImageList s (imagesAt s r)) _ _ _ e
 
 -- a record that bears the wanted name keeps rules 8 and 9 where that name is at home
-pub met-home : (s wanted : List ℕ) (k r : ℕ) → bucketOf s wanted ≡ k → bearsName s r wanted ≡ true → nameFault s k r ≡ noFault
-met-home s wanted k r home e =
+pub bears-home : (s wanted : List ℕ) (k r : ℕ) → bucketOf s wanted ≡ k → bearsName s r wanted ≡ true → nameFault s k r ≡ noFault
+bears-home s wanted k r home e =
     let both = and-eq-true-iff (validName s r) _ .0 e in
     name-home s k r (both .0) (ap (bucketOf s) (same-equal (nameOf s r) wanted (both .1)) ∙ home)
