@@ -7,7 +7,7 @@ use mathlib.Core.Bool.{Bool, true, false, _&&_}
 use native.Mathlib.Numerals.{add-one}
 use native.Mathlib.Omega.{arith}
 use borrow.Author.Tests.{lt-ltb, ltb-true, ltb-false}
-use lib.ListN.{length, take, getD, length-map, List·getD-map}
+use lib.ListN.{length, take, getD}
 use lib.Seq.{take-all}
 use lib.Dec.{T, ltb, eqb}
 use Rattle.format.specs.Choice.{if_then_else_}
@@ -54,39 +54,23 @@ pub ascii-hash : (name : List ℕ) → Ascii name → hash name ≡ hashNumbers 
 unfolding hash
 ascii-hash name low = ap hashNumbers (map-ascii name low)
 
-from-one-more : (h : ℕ) (t : List ℕ) (i : ℕ) → i < length t → hashFrom h (take (i + 1) t) ≡ (31 * hashFrom h (take i t) + getD t i 0) % 2 ^ 32
+-- one byte more, after the hash h of the bytes before; the first byte is the hash of itself
+from-one-more : (h : ℕ) (t : List ℕ) (i : ℕ) → i < length t
+    → hashFrom h (map signed (take (i + 1) t)) ≡ (31 * hashFrom h (map signed (take i t)) + signed (getD t i 0)) % 2 ^ 32
 unfolding hashFrom
 from-one-more h [] i l = absurd (omega arith)
-from-one-more h (n ∷ t) zero l = refl
-from-one-more h (n ∷ t) (suc i) l = rw add-one (rw add-one at (from-one-more ((31 * h + n) % 2 ^ 32) t i (omega arith)))
-
--- the first number is the hash of itself, so it has to be below the modulus
-numbers-one-more : (t : List ℕ) (i : ℕ) → i < length t → getD t i 0 < 2 ^ 32
-    → hashNumbers (take (i + 1) t) ≡ (31 * hashNumbers (take i t) + getD t i 0) % 2 ^ 32
-unfolding hashNumbers hashFrom
-numbers-one-more [] i l small = absurd (omega arith)
-numbers-one-more (n ∷ t) zero l small = let itself : n ≡ (31 * 0 + n) % 2 ^ 32 = omega arith in itself
-numbers-one-more (n ∷ t) (suc i) l small = rw add-one (rw add-one at (from-one-more n t i (omega arith)))
-
-map-take : (f : ℕ → ℕ) (i : ℕ) (t : List ℕ) → map f (take i t) ≡ take i (map f t)
-map-take f zero t = refl
-map-take f (suc i) [] = refl
-map-take f (suc i) (b ∷ t) = ap (λ s. f b ∷ s) (map-take f i t)
-
-signed-at : (t : List ℕ) (i : ℕ) → getD (map signed t) i 0 ≡ signed (getD t i 0)
-unfolding signed
-signed-at t i = List·getD-map signed t i 0
+from-one-more h (b ∷ t) zero l = refl
+from-one-more h (b ∷ t) (suc i) l = rw add-one (rw add-one at (from-one-more ((31 * h + signed b) % 2 ^ 32) t i (omega arith)))
 
 pub hash-none : hash [] ≡ 0
 unfolding hash hashNumbers
 hash-none = refl
 
 pub hash-one-more : (t : List ℕ) (i : ℕ) → i < length t → getD t i 0 < 256 → hash (take (i + 1) t) ≡ (31 * hash (take i t) + signed (getD t i 0)) % 2 ^ 32
-unfolding hash
-hash-one-more t i l small =
-    let byte = signed-at t i in
-    let step = numbers-one-more (map signed t) i (omega (arith, length-map t signed)) (omega (arith, byte, signed-raised (getD t i 0) small .0)) in
-    rw (map-take signed (i + 1) t, map-take signed i t) (step ∙ ap (λ n. (31 * hashNumbers (take i (map signed t)) + n) % 2 ^ 32) byte)
+unfolding hash hashNumbers hashFrom
+hash-one-more [] i l small = absurd (omega arith)
+hash-one-more (b ∷ t) zero l small = omega (arith, signed-raised b small .0)
+hash-one-more (b ∷ t) (suc i) l small = rw add-one (rw add-one at (from-one-more (signed b) t i (omega arith)))
 
 -- a name that may be asked for is hashed whole: no zero byte cuts it, and it is not too long
 pub allowed-hash : (name : List ℕ) → allowed name ≡ true → hash (take 255 (string name)) ≡ hash name

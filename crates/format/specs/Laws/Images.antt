@@ -1,12 +1,12 @@
 -- Rule 11 on the images of a list, one after the other, and their words.
 use Prim.Native.Nat.{ℕ, zero, suc, _+_, _≤_}
 use mathlib.Core.Path.{_≡_, refl}
-use mathlib.Core.List.{List, [], _∷_}
+use mathlib.Core.List.{List, [], _∷_, append-assoc}
 use mathlib.Core.Bool.{true, false}
-use native.Mathlib.Nat.{suc-add}
 use native.Mathlib.Numerals.{add-one}
 use native.Mathlib.Omega.{arith}
-use lib.ListN.{length, drop, set}
+use lib.ListN.{length, take, drop, set}
+use lib.Seq.{sets-eq, drop-at, length-take-le}
 use Rattle.format.specs.Number.{be}
 use Rattle.format.specs.Fault.{fault, noFault}
 use Rattle.format.specs.Record.{validImage, imagesFault, firstWord, imageWords}
@@ -27,11 +27,8 @@ module _ (s : List ℕ) (p n : ℕ) where
 
 -- two words stored side by side, and what stood after them
 pub two-stored : (ws : List ℕ) (i a b : ℕ) → i + 2 ≤ length ws → drop i (set (set ws i a) (i + 1) b) ≡ a ∷ b ∷ drop (i + 2) ws
-two-stored [] i a b h = absurd (omega arith)
-two-stored (x ∷ []) zero a b h = absurd (omega arith)
-two-stored (x ∷ []) (suc i) a b h = absurd (omega arith)
-two-stored (x ∷ (y ∷ ws)) zero a b h = refl
-two-stored (x ∷ (y ∷ ws)) (suc i) a b h = rw (suc-add, suc-add) (two-stored (y ∷ ws) i a b (omega arith))
+two-stored ws i a b h =
+    rw (add-one i, sets-eq (a ∷ b ∷ []) ws i h, append-assoc) (drop-at (take i ws) _ i (length-take-le i ws (omega arith)))
 
 -- the words of one more image before the rest
 pub words-cons : (s : List ℕ) (n p : ℕ) (m : ℕ) → n ≡ m + 1

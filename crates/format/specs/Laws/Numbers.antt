@@ -4,6 +4,7 @@ use Prim.Native.Nat.{ℕ, zero, suc}
 use mathlib.Core.Path.{_≡_, refl, sym, _∙_}
 use mathlib.Core.List.{List, [], _∷_}
 use mathlib.Core.Bool.{Bool, true, false, _&&_, _||_, and-eq-true-iff, false≢true}
+use native.Mathlib.Decide.{ℕ-discrete}
 use native.Mathlib.Omega.{arith}
 use borrow.Author.Tests.{eqb-true}
 use lib.Dec.{eqb}
@@ -41,11 +42,7 @@ module _ {ns : List ℕ} where
   unless-one false n p h = record { one = h }
 
   pub orElse-one : (x y : Fault) → OneOf ns (x .number) → OneOf ns (y .number) → OneOf ns ((x orElse y) .number)
-  orElse-one x y h g = go (x .number) refl
-    where
-      go : (n : ℕ) → x .number ≡ n → OneOf ns ((x orElse y) .number)
-      go zero e = rw (orElse-next x y e) g
-      go (suc n) e = rw (orElse-first x y (λ z. omega arith)) h
+  orElse-one x y h g = elim (ℕ-discrete (x .number) 0) [ yes kept ↦ rw (orElse-next x y kept) g | no broken ↦ rw (orElse-first x y broken) h ]
 
 -- more numbers
 abbrev pub includes : List ℕ → List ℕ → Bool

@@ -7,7 +7,7 @@ use native.Mathlib.Numerals.{add-one}
 use native.Mathlib.Omega.{arith}
 use borrow.Author.Tests.{lt-ltb, le-ltb, le-leb, lt-leb, ne-eqb, ltb-true, ltb-false, leb-true, leb-false, eqb-true, eqb-false}
 use lib.ListN.{length, take, drop, getD, List·getD-eq-default}
-use lib.Seq.{take-all, take-take}
+use lib.Seq.{take-all, take-take, drop-nil}
 use lib.Dec.{ltb, leb, eqb}
 use Rattle.format.specs.Choice.{if_then_else_}
 use Rattle.format.specs.String.{string, ended, extent, isWhole}
@@ -17,14 +17,10 @@ use Rattle.format.specs.declared.Extent.the-variants.{Whole, Empty, Long
 -- `getD` counts a byte past the end as 0
 pub string-stops : (t : List ℕ) (i : ℕ) → getD t i 0 ≡ 0 → string (drop i t) ≡ []
 unfolding string
-string-stops [] zero e = refl
-string-stops [] (suc i) e = refl
+string-stops [] i e = rw drop-nil
 string-stops (zero ∷ t) zero e = refl
 string-stops (suc b ∷ t) zero e = absurd (omega arith)
 string-stops (b ∷ t) (suc i) e = string-stops t i e
-
-pub string-ends : (t : List ℕ) (i : ℕ) → length t ≤ i → string (drop i t) ≡ []
-string-ends t i h = string-stops t i (List·getD-eq-default t 0 h)
 
 pub string-goes-on : (t : List ℕ) (i : ℕ) → (getD t i 0 ≡ 0 → ⊥) → string (drop i t) ≡ getD t i 0 ∷ string (drop (i + 1) t)
 unfolding string
@@ -41,9 +37,6 @@ Passed t i = i + length (string (drop i t)) ≡ length (string t)
 module _ (t : List ℕ) (i : ℕ) (passed : Passed t i) where
   pub passed-stops : getD t i 0 ≡ 0 → length (string t) ≡ i
   passed-stops e = omega (arith, ap length (string-stops t i e))
-
-  pub passed-ends : length t ≤ i → length (string t) ≡ i
-  passed-ends h = omega (arith, ap length (string-ends t i h))
 
   module _ (nz : getD t i 0 ≡ 0 → ⊥) where
     pub passed-next : Passed t (i + 1)
@@ -84,15 +77,11 @@ pub data Judged (limit : ℕ) (t : List ℕ) : Extent → Type 0 where
   empty : 0 < length t → length (string t) ≡ 0 → Judged limit t Empty
   whole : {n : ℕ} → n ≡ length (string t) → WholeString limit t → Judged limit t (Whole n)
 
--- what holds of the string gives the answer
-pub judgement : (limit : ℕ) (t : List ℕ) {r : Extent} → Judged limit t r → r ≡ extent limit t
+pub whole-extent : (limit : ℕ) (t : List ℕ) → WholeString limit t → extent limit t ≡ Whole (length (string t))
 unfolding extent
-judgement limit t (long h) = simp (lt-ltb _ _ h)
-judgement limit t (cut h g) = simp (le-ltb _ _ h, le-leb _ _ g)
-judgement limit t (empty h e) = simp (e, le-ltb limit 0 zero-le, lt-leb _ _ h)
-judgement limit t (whole e h) =
+whole-extent limit t h =
     let has-bytes : length (string t) ≡ 0 → ⊥ = λ z. omega arith in
-    simp (e, le-ltb _ _ (h .within), lt-leb _ _ (h .ended), ne-eqb _ _ has-bytes)
+    simp (le-ltb _ _ (h .within), lt-leb _ _ (h .ended), ne-eqb _ _ has-bytes)
 
 -- what is answered after i bytes: at a zero byte, at one byte more than the limit, and at the end
 module _ (limit : ℕ) (t : List ℕ) (i : ℕ) (passed : Passed t i) where
@@ -101,10 +90,12 @@ module _ (limit : ℕ) (t : List ℕ) (i : ℕ) (passed : Passed t i) where
   extent-ended l h e = rw (passed-stops t i passed e, le-ltb limit i h, lt-leb (length t) i l)
 
   pub extent-long : i ≡ limit → (getD t i 0 ≡ 0 → ⊥) → Long ≡ extent limit t
-  extent-long e nz = judgement limit t (long (omega (arith, passed-below t i passed nz)))
+  unfolding extent
+  extent-long e nz = rw (lt-ltb limit (length (string t)) (omega (arith, passed-below t i passed nz)))
 
   pub extent-cut : i ≤ limit → length t ≤ i → Cut ≡ extent limit t
-  extent-cut h l = let e = passed-ends t i passed l in judgement limit t (cut (omega arith) (omega arith))
+  unfolding extent
+  extent-cut h l = rw (passed-stops t i passed (List·getD-eq-default t 0 l), le-ltb limit i h, le-leb (length t) i l)
 
 -- and the answer says what holds of it
 pub judged : (limit : ℕ) (t : List ℕ) → Judged limit t (extent limit t)
@@ -119,13 +110,10 @@ judged limit t = go (ltb limit (length (string t))) refl (leb (length t) (length
     go false p false q false s = whole refl (record { some = omega (arith, eqb-false); within = ltb-false _ _ p; ended = leb-false _ _ q })
 
 pub whole-length : (limit : ℕ) (t : List ℕ) (n : ℕ) → extent limit t ≡ Whole n → n ≡ length (string t)
-whole-length limit t n e = go (judged limit t) e
+whole-length limit t n e = go (rw e at (judged limit t))
   where
-    go : {r : Extent} → Judged limit t r → r ≡ Whole n → n ≡ length (string t)
-    go (long h) q = cc
-    go (cut h g) q = cc
-    go (empty h g) q = cc
-    go (whole g h) q = cc
+    go : Judged limit t (Whole n) → n ≡ length (string t)
+    go (whole g h) = g
 
 pub whole-is-whole : (limit : ℕ) (t : List ℕ) (n : ℕ) → extent limit t ≡ Whole n → isWhole (extent limit t) ≡ true
 unfolding isWhole
