@@ -1,10 +1,9 @@
 -- What a byte counts as, the hash of the first bytes of a name and what one byte more makes of it,
 -- and the bucket that it gives.
-use Prim.Native.Nat.{ℕ, zero, suc, _+_, _-_, _*_, _%_, _^_, _<_}
-use mathlib.Core.Path.{_≡_, refl, ap, _∙_}
+use Prim.Native.Nat.{ℕ, suc, _+_, _-_, _*_, _%_, _^_, _<_}
+use mathlib.Core.Path.{_≡_, refl, ap}
 use mathlib.Core.List.{List, [], _∷_, map}
 use mathlib.Core.Bool.{Bool, true, false, _&&_}
-use native.Mathlib.Numerals.{add-one}
 use native.Mathlib.Omega.{arith}
 use borrow.Author.Tests.{lt-ltb, ltb-true, ltb-false}
 use lib.ListN.{length, take, getD}
@@ -54,23 +53,13 @@ pub ascii-hash : (name : List ℕ) → Ascii name → hash name ≡ hashNumbers 
 unfolding hash
 ascii-hash name low = ap hashNumbers (map-ascii name low)
 
--- one byte more, after the hash h of the bytes before; the first byte is the hash of itself
-from-one-more : (h : ℕ) (t : List ℕ) (i : ℕ) → i < length t
-    → hashFrom h (map signed (take (i + 1) t)) ≡ (31 * hashFrom h (map signed (take i t)) + signed (getD t i 0)) % 2 ^ 32
-unfolding hashFrom
-from-one-more h [] i l = absurd (omega arith)
-from-one-more h (b ∷ t) zero l = refl
-from-one-more h (b ∷ t) (suc i) l = rw add-one (rw add-one at (from-one-more ((31 * h + signed b) % 2 ^ 32) t i (omega arith)))
-
-pub hash-none : hash [] ≡ 0
-unfolding hash hashNumbers
-hash-none = refl
-
-pub hash-one-more : (t : List ℕ) (i : ℕ) → i < length t → getD t i 0 < 256 → hash (take (i + 1) t) ≡ (31 * hash (take i t) + signed (getD t i 0)) % 2 ^ 32
+-- the hash goes on from 0, since the first byte is the hash of itself
+pub hash-from-none : (t : List ℕ) → getD t 0 0 < 256 → hashFrom 0 (map signed t) ≡ hash t
 unfolding hash hashNumbers hashFrom
-hash-one-more [] i l small = absurd (omega arith)
-hash-one-more (b ∷ t) zero l small = omega (arith, signed-raised b small .0)
-hash-one-more (b ∷ t) (suc i) l small = rw add-one (rw add-one at (from-one-more (signed b) t i (omega arith)))
+hash-from-none [] small = refl
+hash-from-none (b ∷ t) small =
+    let itself : (31 * 0 + signed b) % 2 ^ 32 ≡ signed b = omega (arith, signed-raised b small .0) in
+    ap (λ h. hashFrom h (map signed t)) itself
 
 -- a name that may be asked for is hashed whole: no zero byte cuts it, and it is not too long
 pub allowed-hash : (name : List ℕ) → allowed name ≡ true → hash (take 255 (string name)) ≡ hash name

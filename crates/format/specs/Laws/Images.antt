@@ -1,6 +1,6 @@
 -- Rule 11 on the images of a list, one after the other, and their words.
-use Prim.Native.Nat.{ℕ, zero, suc, _+_, _≤_}
-use mathlib.Core.Path.{_≡_, refl}
+use Prim.Native.Nat.{ℕ, _+_, _≤_}
+use mathlib.Core.Path.{_≡_}
 use mathlib.Core.List.{List, [], _∷_, append-assoc}
 use mathlib.Core.Bool.{true, false}
 use native.Mathlib.Numerals.{add-one}

@@ -1,13 +1,14 @@
 -- Laws of strings: where one stops and how it goes on, and what each answer of `extent` says of it.
-use Prim.Native.Nat.{ℕ, zero, suc, _+_, _≤_, _<_, zero-le, suc-le-suc}
-use mathlib.Core.Path.{_≡_, refl, ap, sym, _∙_}
+use Prim.Native.Nat.{ℕ, zero, suc, _+_, _-_, _≤_, _<_, zero-le, suc-le-suc}
+use mathlib.Core.Path.{_≡_, refl, ap}
 use mathlib.Core.List.{List, [], _∷_}
 use mathlib.Core.Bool.{Bool, true, false, false≢true}
+use native.Mathlib.Nat.{sub-self}
 use native.Mathlib.Numerals.{add-one}
 use native.Mathlib.Omega.{arith}
 use borrow.Author.Tests.{lt-ltb, le-ltb, le-leb, lt-leb, ne-eqb, ltb-true, ltb-false, leb-true, leb-false, eqb-true, eqb-false}
 use lib.ListN.{length, take, drop, getD, List·getD-eq-default}
-use lib.Seq.{take-all, take-take, drop-nil}
+use lib.Seq.{take-all, take-nil, drop-nil}
 use lib.Dec.{ltb, leb, eqb}
 use Rattle.format.specs.Choice.{if_then_else_}
 use Rattle.format.specs.String.{string, ended, extent, isWhole}
@@ -15,19 +16,35 @@ use Rattle.format.specs.declared.Extent.{Extent}
 use Rattle.format.specs.declared.Extent.the-variants.{Whole, Empty, Long, Cut}
 
 -- `getD` counts a byte past the end as 0
-pub string-stops : (t : List ℕ) (i : ℕ) → getD t i 0 ≡ 0 → string (drop i t) ≡ []
+string-stops : (t : List ℕ) (i : ℕ) → getD t i 0 ≡ 0 → string (drop i t) ≡ []
 unfolding string
 string-stops [] i e = rw drop-nil
 string-stops (zero ∷ t) zero e = refl
 string-stops (suc b ∷ t) zero e = absurd (omega arith)
 string-stops (b ∷ t) (suc i) e = string-stops t i e
 
-pub string-goes-on : (t : List ℕ) (i : ℕ) → (getD t i 0 ≡ 0 → ⊥) → string (drop i t) ≡ getD t i 0 ∷ string (drop (i + 1) t)
+string-goes-on : (t : List ℕ) (i : ℕ) → (getD t i 0 ≡ 0 → ⊥) → string (drop i t) ≡ getD t i 0 ∷ string (drop (i + 1) t)
 unfolding string
 string-goes-on [] i nz = absurd (nz refl)
 string-goes-on (zero ∷ t) zero nz = absurd (nz refl)
 string-goes-on (suc b ∷ t) zero nz = refl
 string-goes-on (b ∷ t) (suc i) nz = rw add-one (rw add-one at (string-goes-on t i nz))
+
+-- what is left of the string, within the limit, from byte i on
+abbrev pub left : ℕ → List ℕ → ℕ → List ℕ
+left limit t i = take (limit - i) (string (drop i t))
+
+module _ (limit : ℕ) (t : List ℕ) (i : ℕ) where
+  pub none-left : getD t i 0 ≡ 0 → left limit t i ≡ []
+  none-left e = rw (string-stops t i e, take-nil)
+
+  pub none-within : i ≡ limit → left limit t i ≡ []
+  none-within e = rw (e, sub-self)
+
+  pub one-less : i < limit → (getD t i 0 ≡ 0 → ⊥) → left limit t i ≡ getD t i 0 ∷ left limit t (i + 1)
+  one-less l nz =
+      let e : limit - i ≡ suc (limit - (i + 1)) = omega arith in
+      rw (string-goes-on t i nz, e)
 
 -- i bytes of the string are passed: these and those of the string of the rest are together as many
 -- as the whole string's
@@ -35,15 +52,11 @@ abbrev pub Passed : List ℕ → ℕ → Type 0
 Passed t i = i + length (string (drop i t)) ≡ length (string t)
 
 module _ (t : List ℕ) (i : ℕ) (passed : Passed t i) where
-  pub passed-stops : getD t i 0 ≡ 0 → length (string t) ≡ i
+  passed-stops : getD t i 0 ≡ 0 → length (string t) ≡ i
   passed-stops e = omega (arith, ap length (string-stops t i e))
 
-  module _ (nz : getD t i 0 ≡ 0 → ⊥) where
-    pub passed-next : Passed t (i + 1)
-    passed-next = omega (arith, ap length (string-goes-on t i nz))
-
-    pub passed-below : i < length (string t)
-    passed-below = omega (arith, ap length (string-goes-on t i nz))
+  pub passed-next : (getD t i 0 ≡ 0 → ⊥) → Passed t (i + 1)
+  passed-next nz = omega (arith, ap length (string-goes-on t i nz))
 
 pub string-fits : (t : List ℕ) → length (string t) ≤ length t
 unfolding string
@@ -56,13 +69,6 @@ unfolding string
 string-front [] = refl
 string-front (zero ∷ t) = refl
 string-front (suc b ∷ t) = ap (λ s. suc b ∷ s) (string-front t)
-
--- as many bytes of the string as were read, within the limit: all of them, or the limit's
-pub string-read : (limit : ℕ) (t : List ℕ) (i : ℕ) → i ≤ limit → length (string t) ≡ i → take limit (string t) ≡ take i t
-string-read limit t i h e = take-all limit (string t) (omega arith) ∙ sym (string-front t) ∙ ap (λ n. take n t) e
-
-pub string-filled : (limit : ℕ) (t : List ℕ) → limit ≤ length (string t) → take limit (string t) ≡ take limit t
-string-filled limit t h = ap (take limit) (sym (string-front t)) ∙ take-take limit (length (string t)) t h
 
 -- what a whole string is: it has bytes, no more than the limit, and a zero byte stands after them
 pub record WholeString (limit : ℕ) (t : List ℕ) : Type 0 where
@@ -91,7 +97,7 @@ module _ (limit : ℕ) (t : List ℕ) (i : ℕ) (passed : Passed t i) where
 
   pub extent-long : i ≡ limit → (getD t i 0 ≡ 0 → ⊥) → Long ≡ extent limit t
   unfolding extent
-  extent-long e nz = rw (lt-ltb limit (length (string t)) (omega (arith, passed-below t i passed nz)))
+  extent-long e nz = rw (lt-ltb limit (length (string t)) (omega (arith, ap length (string-goes-on t i nz))))
 
   pub extent-cut : i ≤ limit → length t ≤ i → Cut ≡ extent limit t
   unfolding extent

@@ -7,10 +7,10 @@ use mathlib.Core.Path.{refl, _∙_}
 use mathlib.Core.Logic.{⊎-elim}
 use native.Mathlib.Omega.{arith}
 use borrow.Author.Needs.{needs}
-use lib.ListN.{length}
-use Rattle.format.specs.Laws.Strings.{string-stops, string-ends, extent-ended, extent-long, extent-cut}
+use lib.ListN.{length, List·getD-eq-default}
+use Rattle.format.specs.Laws.Strings.{none-left, none-within, extent-ended, extent-long, extent-cut}
 use Rattle.format.specs.Laws.Segments.{none-free}
-use Rattle.strings.proofs.Reading.{none-left, none-within, Reading, at-end, next-byte, next-slash, same-reading}
+use Rattle.strings.proofs.Reading.{Reading, at-end, next-byte, next-slash, same-reading}
 use Rattle.strings.proofs.read_path.Statement.{statement}
 use Rattle.strings.proofs.read_path.Tie as tie
 
@@ -27,7 +27,6 @@ loop-holds c = record {
   within = omega arith;
   passed = omega arith;
   free = none-free;
-  ahead = refl;
   judged = refl;
 }
 
@@ -36,7 +35,7 @@ returns c =
     let l = c .before .before .before .before .before in
     let t = l .before .before .args .part .now in
     let stop = c .before .before .if1 .taken in
-    let none = none-left t (l .loop .i) (string-stops t (l .loop .i) stop) in (
+    let none = none-left 1023 t (l .loop .i) stop in (
       c .ended .ensures ∙ extent-ended 1023 t (l .loop .i) (l .loop .inv .passed) (omega arith) (omega arith) stop,
       at-end (l .loop .inv) none (c .before .valid-to .ensures),
     )
@@ -47,7 +46,7 @@ returns-2 c =
     let t = l .before .before .args .part .now in
     let full = c .before .if2 .taken in (
       extent-long 1023 t (l .loop .i) (l .loop .inv .passed) full (c .before .before .if1 .left),
-      at-end (l .loop .inv) (none-within t (l .loop .i) full) (c .valid-to2 .ensures),
+      at-end (l .loop .inv) (none-within 1023 t (l .loop .i) full) (c .valid-to2 .ensures),
     )
 
 loop-again : tie.Need-loop-again Inv-loop μ-loop
@@ -64,7 +63,7 @@ returns-3 c =
     let l = c .before .before in
     let t = l .before .before .args .part .now in
     let end = c .before .loop-test .left in
-    let none = none-left t (l .loop .i) (string-ends t (l .loop .i) end) in
+    let none = none-left 1023 t (l .loop .i) (List·getD-eq-default t 0 end) in
     (extent-cut 1023 t (l .loop .i) (l .loop .inv .passed) (omega arith) end, at-end (l .loop .inv) none (c .valid-to4 .ensures))
 
 pub read-path-spec : {M : Type 1} → statement M

@@ -1,65 +1,51 @@
--- `strings::valid_segment` meets its contract: a law for each arm of its `match`.
-use Prim.Native.Nat.{ℕ, _<_}
-use mathlib.Core.Path.{_≡_, refl, sym, ap, _∙_}
+-- `strings::valid_segment` meets its contract: the definition asks what the arms of the code's
+-- `match` on the length ask (`tested`), and each arm knows the answers.
+use Prim.Native.Nat.{ℕ, zero, suc, _-_}
+use mathlib.Core.Path.{_≡_, refl, sym, _∙_}
 use mathlib.Core.List.{List, [], _∷_}
-use mathlib.Core.Bool.{true, false, not, and-true, and-false}
+use mathlib.Core.Bool.{Bool, true, false, not, _&&_, and-true, and-false}
 use native.Mathlib.Omega.{arith}
 use borrow.Author.Needs.{needs}
 use borrow.Author.Tests.{eq-eqb, ne-eqb}
 use lib.Dec.{eqb}
 use lib.ListN.{length, getD}
+use Rattle.format.specs.Choice.{if_then_else_}
 use Rattle.format.specs.String.{sameBytes}
 use Rattle.format.specs.Segments.{dot, validSegment}
 use Rattle.strings.proofs.valid_segment.Statement.{statement}
 use Rattle.strings.proofs.valid_segment.Tie as tie
 
-no-byte : (p : List ℕ) → length p ≡ 0 → validSegment p ≡ false
-unfolding validSegment sameBytes
-no-byte [] e = refl
-no-byte (a ∷ p) e = absurd (omega arith)
+-- at a length, by the first two bytes
+abbrev arms : ℕ → ℕ → ℕ → Bool
+arms zero a b = false
+arms (suc zero) a b = not (eqb a dot)
+arms (suc (suc zero)) a b = not (eqb a dot && eqb b dot)
+arms (suc (suc (suc n))) a b = true
 
-one-byte : (p : List ℕ) → length p ≡ 1 → validSegment p ≡ not (eqb (getD p 0 0) dot)
+tested : (p : List ℕ) → validSegment p ≡ arms (length p) (getD p 0 0) (getD p 1 0)
 unfolding validSegment sameBytes
-one-byte [] e = absurd (omega arith)
-one-byte (a ∷ []) e = simp (and-true, and-false)
-one-byte (a ∷ b ∷ p) e = absurd (omega arith)
-
--- of two bytes the second counts only after a dot
-two-bytes : (p : List ℕ) → length p ≡ 2 → getD p 0 0 ≡ dot → validSegment p ≡ not (eqb (getD p 1 0) dot)
-unfolding validSegment sameBytes
-two-bytes [] e d = absurd (omega arith)
-two-bytes (a ∷ []) e d = absurd (omega arith)
-two-bytes (a ∷ b ∷ []) e d = rw (eq-eqb a dot d, and-true (eqb b dot))
-two-bytes (a ∷ b ∷ c ∷ p) e d = absurd (omega arith)
-
-no-dot-first : (p : List ℕ) → 0 < length p → (getD p 0 0 ≡ dot → ⊥) → validSegment p ≡ true
-unfolding validSegment sameBytes
-no-dot-first [] l h = absurd (omega arith)
-no-dot-first (a ∷ p) l h = rw (ne-eqb a dot h)
-
-more-bytes : (p : List ℕ) → 2 < length p → validSegment p ≡ true
-unfolding validSegment sameBytes
-more-bytes [] l = absurd (omega arith)
-more-bytes (a ∷ []) l = absurd (omega arith)
-more-bytes (a ∷ b ∷ []) l = absurd (omega arith)
-more-bytes (a ∷ b ∷ c ∷ p) l = simp and-false
+tested [] = refl
+tested (a ∷ []) = simp (and-true, and-false)
+tested (a ∷ b ∷ []) = simp (and-true, and-false)
+tested (a ∷ b ∷ c ∷ p) = simp and-false
 
 returns : tie.Need-returns
-returns c = sym (no-byte (c .before .args .segment .now) (omega arith))
+returns c = rw (tested, c .match .keys1)
 
 returns-2 : tie.Need-returns-2
-returns-2 c = sym (one-byte (c .before .before .args .segment .now) (omega arith))
+returns-2 c = rw (tested, c .before .match .keys2)
 
 returns-3 : tie.Need-returns-3
-returns-3 c =
-    let p = c .before .before .before .args .segment .now in
-    ap not (ne-eqb (getD p 0 0) dot (c .if1 .taken)) ∙ sym (no-dot-first p (omega arith) (c .if1 .taken))
+returns-3 c = rw (tested, c .before .before .match .keys3, ne-eqb _ _ (c .if1 .taken))
 
 returns-4 : tie.Need-returns-4
-returns-4 c = sym (two-bytes (c .before .before .before .before .args .segment .now) (omega arith) (c .before .if1 .left))
+returns-4 c = rw (tested, c .before .before .before .match .keys3, eq-eqb _ _ (c .before .if1 .left))
 
 returns-5 : tie.Need-returns-5
-returns-5 c = sym (more-bytes (c .before .args .segment .now) (omega arith))
+returns-5 c =
+    let n = length (c .before .args .segment .now) in
+    let more : n ≡ suc (suc (suc (n - 3))) = omega arith in
+    rw (tested, more)
 
 pub valid-segment-spec : {M : Type 1} → statement M
 valid-segment-spec =
