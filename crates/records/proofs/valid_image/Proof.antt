@@ -1,6 +1,5 @@
 -- `records::valid_image` meets its contract: the first test says whether the index is valid
--- (`within` and `beyond` below), and where it is the flags decide, which are the rest of the first
--- word.
+-- (`decided`), and where it is the flags decide, which are the rest of the first word.
 use Prim.Native.Nat.{ℕ, _+_, _*_, _%_, _^_, _≤_, _<_}
 use mathlib.Core.Path.{_≡_, refl, ap, _∙_, sym}
 use mathlib.Core.Bool.{Bool, true, false}
@@ -26,20 +25,12 @@ record Placed (n i f r : ℕ) : Type 0 where
   after : (r + validWords n .lowest) % 2 ^ 32 ≡ i * 65536 + f
 
 -- such a word is valid just where r is below the span
-module _ (n i f r : ℕ) (p : Placed n i f r) where
-  within : r < validWords n .span → validIndex n i ≡ true
-  within h = go (eqb n 0) refl
-    where
-      go : (none : Bool) → eqb n 0 ≡ none → validIndex n i ≡ true
-      go true e = let after = rw e at (p .after) in let below = rw e at h in rw e (eq-eqb i 0xFFFF (omega (arith, p)))
-      go false e = let after = rw e at (p .after) in let below = rw e at h in rw e (lt-ltb i n (omega (arith, p)))
-
-  beyond : validWords n .span ≤ r → validIndex n i ≡ false
-  beyond h = go (eqb n 0) refl
-    where
-      go : (none : Bool) → eqb n 0 ≡ none → validIndex n i ≡ false
-      go true e = let after = rw e at (p .after) in let above = rw e at h in rw e (ne-eqb i 0xFFFF (λ q. omega (arith, p)))
-      go false e = let after = rw e at (p .after) in let above = rw e at h in rw e (le-ltb i n (omega (arith, p)))
+decided : (n i f r : ℕ) → Placed n i f r → (r < validWords n .span → validIndex n i ≡ true) × (validWords n .span ≤ r → validIndex n i ≡ false)
+decided n i f r p = go (eqb n 0) refl
+  where
+    go : (none : Bool) → eqb n 0 ≡ none → (r < validWords n .span → validIndex n i ≡ true) × (validWords n .span ≤ r → validIndex n i ≡ false)
+    go true e = let after = rw e at (p .after) in rw e (λ h. eq-eqb i 0xFFFF (omega (arith, p)), λ h. ne-eqb i 0xFFFF (λ q. omega (arith, p)))
+    go false e = let after = rw e at (p .after) in rw e (λ h. lt-ltb i n (omega (arith, p)), λ h. le-ltb i n (omega (arith, p)))
 
 placed : (c : tie.After-wrapping-sub-u32)
     → let a = c .before .before .before .args in
@@ -61,13 +52,13 @@ returns c =
     let start = sub .before .before .before in
     let below = rw (start .pre .0 .1) at (c .if1 .taken) in
     let flags : sub .before .first-word .result % 65536 ≡ be 2 (now (start .args .cache)) (start .args .at + 2) = omega (arith, sub .before .first-word .ensures) in
-    rw (within _ _ _ _ (placed sub) below, flags)
+    rw (decided _ _ _ _ (placed sub) .0 below, flags)
 
 returns-2 : tie.Need-returns-2
 returns-2 c =
     let sub = c .before .before in
     let above = rw (sub .before .before .before .pre .0 .1) at (c .if1 .left) in
-    rw (beyond _ _ _ _ (placed sub) above)
+    rw (decided _ _ _ _ (placed sub) .1 above)
 
 pub valid-image-spec : {M : Type 1} → statement M
 valid-image-spec =

@@ -1,7 +1,7 @@
 -- `strings::valid_segment` meets its contract: the definition asks what the arms of the code's
 -- `match` on the length ask (`tested`), and each arm knows the answers.
 use Prim.Native.Nat.{ℕ, zero, suc, _-_}
-use mathlib.Core.Path.{_≡_, refl, sym, _∙_}
+use mathlib.Core.Path.{_≡_, refl}
 use mathlib.Core.List.{List, [], _∷_}
 use mathlib.Core.Bool.{Bool, true, false, not, _&&_, and-true, and-false}
 use native.Mathlib.Omega.{arith}

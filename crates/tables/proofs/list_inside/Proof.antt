@@ -20,15 +20,6 @@ returns c =
     let outside : length (now (a .cache)) < a .at + 4 = omega arith in
     simp (lt-leb _ _ outside)
 
-mul-result : tie.Need-mul-result
-mul-result c = omega (arith, entries-fit c)
-
-add-result : tie.Need-add-result
-add-result c = omega (arith, entries-fit c)
-
-add-result-2 : tie.Need-add-result-2
-add-result-2 c = omega (arith, entries-fit c)
-
 returns-2 : tie.Need-returns-2
 returns-2 c = simp (le-leb _ _ (c .before .if1 .left), c .u32-at .ensures)
 
@@ -40,7 +31,7 @@ list-inside-spec =
     returns
     (λ c κs. search needs)
     (λ c. search needs)
-    mul-result
-    add-result
-    add-result-2
+    (λ c. omega (arith, entries-fit c))
+    (λ c. omega (arith, entries-fit c))
+    (λ c. omega (arith, entries-fit c))
     returns-2)
