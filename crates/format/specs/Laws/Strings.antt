@@ -135,6 +135,6 @@ whole-string limit t e = go (judged limit t) e
     go (empty h g) q = absurd (false≢true q)
     go (whole g h) q = h
 
--- so as many bytes as the limit allows are all of it
-pub whole-within : (limit : ℕ) (t : List ℕ) → isWhole (extent limit t) ≡ true → take limit (string t) ≡ string t
-whole-within limit t e = take-all limit (string t) (whole-string limit t e .within)
+-- so as many bytes as the limit allows are all of it, read from any part that is the same
+pub whole-within : (limit : ℕ) {u t : List ℕ} → u ≡ t → isWhole (extent limit t) ≡ true → take limit (string u) ≡ string t
+whole-within limit {u} {t} e w = rw e (take-all limit (string t) (whole-string limit t w .within))

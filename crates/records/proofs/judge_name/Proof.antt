@@ -6,9 +6,8 @@ use mathlib.Core.Path.{_≡_, ap, sym, _∙_}
 use mathlib.Core.List.{List}
 use mathlib.Core.Bool.{true}
 use borrow.Author.Needs.{needs}
-use lib.ListN.{take}
 use denote.Ref.{now}
-use Rattle.format.specs.String.{string, extent, isWhole, hash}
+use Rattle.format.specs.String.{extent, isWhole, hash}
 use Rattle.format.specs.Header.{buckets}
 use Rattle.format.specs.Record.{nameOf, bucketOf, validName}
 use Rattle.format.specs.Laws.Strings.{whole-within}
@@ -39,10 +38,7 @@ named c = ap isWhole (c .read-name .ensures .0) ∙ ap (λ (t : List ℕ). isWho
 hashed : (c : tie.After-read-name)
     → let a = start c .args in
     validName (now (a .cache)) (a .«record») ≡ true → c .read-name .result .hash ≡ hash (nameOf (now (a .cache)) (a .«record»))
-hashed c valid =
-    c .read-name .ensures .1
-    ∙ ap (λ (t : List ℕ). hash (take 255 (string t))) (c .before .name-part .ensures)
-    ∙ ap hash (whole-within 255 _ valid)
+hashed c valid = c .read-name .ensures .1 ∙ ap hash (whole-within 255 (c .before .name-part .ensures) valid)
 
 whole : (c : tie.After-struct-known2) → validName (now (start-of-all c .args .cache)) (start-of-all c .args .«record») ≡ true
 whole c = sym (named (c .before .before .before .before)) ∙ tag-whole _ (c .before .before .before .match .keys1)

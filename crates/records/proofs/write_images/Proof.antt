@@ -1,15 +1,14 @@
 -- `records::write_images` meets its contract. The images are written from the last to the first, so
 -- what stands from the present word on is always the end of what is wanted: that is the loop's
 -- invariant. Rests on the laws `two-stored` and `words-cons`.
-use Prim.Native.Nat.{ℕ, _+_, _-_, _*_, _≤_}
+use Prim.Native.Nat.{_+_, _-_, _*_, _≤_}
 use mathlib.Core.Path.{_≡_, refl, _∙_}
-use mathlib.Core.List.{List, _++_}
+use mathlib.Core.List.{_++_}
 use native.Mathlib.Nat.{add-zero, sub-zero, sub-self}
 use native.Mathlib.Omega.{arith}
-use lib.ListN.{length, drop, set, length-set}
+use lib.ListN.{length, drop, length-set}
 use denote.Ref.{now}
-use Rattle.format.specs.Number.{be}
-use Rattle.format.specs.Record.{firstWord, imageWords}
+use Rattle.format.specs.Record.{imageWords}
 use Rattle.format.specs.Laws.Images.{two-stored, words-cons}
 use Rattle.records.proofs.write_images.Statement.{statement}
 use Rattle.records.proofs.write_images.Tie as tie

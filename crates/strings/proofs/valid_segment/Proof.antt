@@ -9,7 +9,6 @@ use borrow.Author.Needs.{needs}
 use borrow.Author.Tests.{eq-eqb, ne-eqb}
 use lib.Dec.{eqb}
 use lib.ListN.{length, getD}
-use Rattle.format.specs.Choice.{if_then_else_}
 use Rattle.format.specs.String.{sameBytes}
 use Rattle.format.specs.Segments.{dot, validSegment}
 use Rattle.strings.proofs.valid_segment.Statement.{statement}

@@ -9,7 +9,7 @@ use mathlib.Core.Bool.{true}
 use native.Mathlib.Omega.{arith}
 use borrow.Author.Needs.{needs}
 use borrow.Author.Tests.{not-true, not-false}
-use lib.ListN.{length, take, drop}
+use lib.ListN.{length, drop}
 use denote.Ref.{now}
 use Rattle.format.specs.Number.{be}
 use Rattle.format.specs.String.{string, extent, isWhole}
@@ -17,10 +17,10 @@ use Rattle.format.specs.declared.Extent.the-variants.{Whole}
 use Rattle.format.specs.Segments.{validSegments}
 use Rattle.format.specs.Fault.{fault, noFault}
 use Rattle.format.specs.Header.{pathField, pathPart, pathOf, pathFault}
-use Rattle.format.specs.Laws.Header.{ValidHeader, header-valid}
 use Rattle.format.specs.Laws.Paths.{path-not-whole, path-absolute, path-segments, path-kept}
 use Rattle.format.specs.Laws.Strings.{whole-string, whole-length, whole-is-whole, whole-within}
 use Rattle.strings.proofs.Tags.{tag-not-whole}
+use Rattle.tables.specs.Laws.{valid-header}
 use Rattle.tables.specs.Tables.{pathFieldOf, pathJudged, pathBroken}
 use Rattle.tables.proofs.path.Statement.{statement}
 use Rattle.tables.proofs.path.Tie as tie
@@ -33,24 +33,24 @@ judged-kept : (s : List ℕ) (i : ℕ) {a n : ℕ} → pathFault s i ≡ noFault
     → record { fault = noFault; start = a; length = n } ≡ pathJudged s i
 judged-kept s i e start end = rw (e, start, end)
 
-valid : (c : tie.Start) → ValidHeader (now (c .args .cache))
-valid c = header-valid _ (c .pre .0 .header)
+-- the part that starts with the path, and the call's start from the place where the path was read
+abbrev part : tie.Start → List ℕ
+part c = pathPart (now (c .args .cache)) (c .args .i)
 
-field-of : (c : tie.Start) → pathFieldOf (c .args .t) (c .args .i) ≡ pathField (now (c .args .cache)) (c .args .i)
-field-of c = ap (λ t. pathFieldOf t (c .args .i)) (c .pre .0 .tables)
+abbrev start : tie.After-read-path → tie.Start
+start c = c .before .before .before .before .before
 
 field-is : (c : tie.After-path-field) → c .path-field .result ≡ pathField (now (c .before .before .args .cache)) (c .before .before .args .i)
-field-is c = c .path-field .ensures ∙ field-of (c .before .before)
+field-is c = c .path-field .ensures ∙ ap (λ t. pathFieldOf t (c .before .before .args .i)) (c .before .before .pre .0 .tables)
 
 start-is : (c : tie.After-u32-at)
     → let a = c .before .before .before .args in c .u32-at .result ≡ be 4 (now (a .cache)) (pathField (now (a .cache)) (a .i))
 start-is c = c .u32-at .ensures ∙ ap (be 4 (now (c .before .before .before .args .cache))) (field-is (c .before))
 
-part-is : (c : tie.After-from) → let a = c .before .before .before .before .args in now (c .from .result) ≡ pathPart (now (a .cache)) (a .i)
+part-is : (c : tie.After-from) → now (c .from .result) ≡ part (c .before .before .before .before)
 part-is c = c .from .ensures ∙ ap (λ n. drop n (now (c .before .before .before .before .args .cache))) (start-is (c .before))
 
-extent-is : (c : tie.After-read-path)
-    → let a = c .before .before .before .before .before .args in c .read-path .result .extent ≡ extent 1023 (pathPart (now (a .cache)) (a .i))
+extent-is : (c : tie.After-read-path) → c .read-path .result .extent ≡ extent 1023 (part (start c))
 extent-is c = c .read-path .ensures .0 ∙ ap (extent 1023) (part-is (c .before))
 
 -- in the arm of a whole path: where the path was read, what it is, and that its segments were read
@@ -58,50 +58,42 @@ extent-is c = c .read-path .ensures .0 ∙ ap (extent 1023) (part-is (c .before)
 abbrev read : tie.After-shared-slice-known2 → tie.After-read-path
 read c = c .before .before .before .before
 
-told : (c : tie.After-shared-slice-known2)
-    → let a = read c .before .before .before .before .before .args in extent 1023 (pathPart (now (a .cache)) (a .i)) ≡ Whole (c .before .before .extent .given .0 .0)
+told : (c : tie.After-shared-slice-known2) → extent 1023 (part (start (read c))) ≡ Whole (c .before .before .extent .given .0 .0)
 told c = sym (extent-is (read c)) ∙ c .before .before .extent .given .1
 
-whole : (c : tie.After-shared-slice-known2)
-    → let a = read c .before .before .before .before .before .args in isWhole (extent 1023 (pathPart (now (a .cache)) (a .i))) ≡ true
+whole : (c : tie.After-shared-slice-known2) → isWhole (extent 1023 (part (start (read c)))) ≡ true
 whole c = whole-is-whole 1023 _ _ (told c)
 
-segments-are : (c : tie.After-shared-slice-known2)
-    → let a = read c .before .before .before .before .before .args in read c .read-path .result .«valid_segments» ≡ validSegments (pathOf (now (a .cache)) (a .i))
-segments-are c =
-    read c .read-path .ensures .1
-    ∙ ap (λ (t : List ℕ). validSegments (take 1023 (string t))) (part-is (read c .before))
-    ∙ ap validSegments (whole-within 1023 _ (whole c))
+segments-are : (c : tie.After-shared-slice-known2) → read c .read-path .result .«valid_segments» ≡ validSegments (string (part (start (read c))))
+segments-are c = read c .read-path .ensures .1 ∙ ap validSegments (whole-within 1023 (part-is (read c .before)) (whole c))
 
 u32-at-requires : tie.Need-u32-at-requires
-u32-at-requires c κs = omega (arith, valid (c .before .before), field-is c)
+u32-at-requires c κs = omega (arith, valid-header (c .before .before .pre .0), field-is c)
 
 shared-slice-read-if1 : tie.Need-shared-slice-read-if1
-shared-slice-read-if1 c =
-    let is-whole = whole-is-whole 1023 _ _ (sym (read c .read-path .ensures .0) ∙ c .before .before .extent .given .1) in
-    omega (arith, whole-string 1023 _ is-whole)
+shared-slice-read-if1 c = omega (arith, whole-string 1023 _ (whole c), ap length (part-is (read c .before)))
 
 returns : tie.Need-returns
 returns c =
-    let part = read (c .before .before) .before in
-    let slash = rw (part-is part) at (c .before .if1 .taken) in
-    c .bad-path .ensures ∙ rw (field-is (part .before .before)) (sym (judged-broken _ _ (path-absolute _ _ slash)))
+    let from = read (c .before .before) .before in
+    let slash = rw (part-is from) at (c .before .if1 .taken) in
+    c .bad-path .ensures ∙ rw (field-is (from .before .before)) (sym (judged-broken _ _ (path-absolute _ _ slash)))
 
 returns-2 : tie.Need-returns-2
 returns-2 c =
     let arm = c .before .before .before in
-    let part = read arm .before in
-    let no-slash = rw (part-is part) at (c .before .before .if1 .left) in
+    let from = read arm .before in
+    let no-slash = rw (part-is from) at (c .before .before .if1 .left) in
     let wrong = sym (segments-are arm) ∙ not-true _ (c .before .if2 .taken) in
-    c .bad-path2 .ensures ∙ rw (field-is (part .before .before)) (sym (judged-broken _ _ (path-segments _ _ (whole arm) no-slash wrong)))
+    c .bad-path2 .ensures ∙ rw (field-is (from .before .before)) (sym (judged-broken _ _ (path-segments _ _ (whole arm) no-slash wrong)))
 
 returns-3 : tie.Need-returns-3
 returns-3 c =
     let arm = c .before .before in
-    let part = read arm .before in
-    let no-slash = rw (part-is part) at (c .before .if1 .left) in
+    let from = read arm .before in
+    let no-slash = rw (part-is from) at (c .before .if1 .left) in
     let all-valid = sym (segments-are arm) ∙ not-false _ (c .if2 .left) in
-    judged-kept _ _ (path-kept _ _ (whole arm) no-slash all-valid) (start-is (part .before)) (whole-length 1023 _ _ (told arm))
+    judged-kept _ _ (path-kept _ _ (whole arm) no-slash all-valid) (start-is (from .before)) (whole-length 1023 _ _ (told arm))
 
 returns-4 : tie.Need-returns-4
 returns-4 c =

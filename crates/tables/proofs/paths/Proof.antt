@@ -8,6 +8,7 @@ use native.Mathlib.Omega.{arith}
 use denote.Ref.{now}
 use Rattle.format.specs.Header.{directories, pathFault, pathsFault}
 use Rattle.format.specs.Laws.Paths.{paths-end, paths-stop, paths-go-on}
+use Rattle.tables.specs.Laws.{same-directories}
 use Rattle.tables.specs.declared.JudgedPath.{JudgedPath}
 use Rattle.tables.proofs.paths.Statement.{statement}
 use Rattle.tables.proofs.paths.Tie as tie
@@ -18,14 +19,11 @@ Inv-loop cache t n i₀ i = (i ≤ directories cache) × (pathsFault (directorie
 abbrev μ-loop : tie.MeasureT-loop
 μ-loop cache t n i₀ i = n - i
 
-count-is : (c : tie.Start Inv-loop μ-loop) → c .args .t .directories ≡ directories (now (c .args .cache))
-count-is c = ap (λ t. t .directories) (c .pre .tables)
-
 loop-holds : tie.Need-loop-holds Inv-loop μ-loop
 loop-holds c = (search needs, rw sub-zero)
 
 path-requires : tie.Need-path-requires Inv-loop μ-loop
-path-requires c κs = (c .before .before .before .pre, omega (arith, count-is (c .before .before .before)))
+path-requires c κs = (c .before .before .before .pre, omega (arith, same-directories (c .before .before .before .pre)))
 
 -- the fault that a turn judges is that of the definition
 fault-is : (c : tie.After-path Inv-loop μ-loop)
@@ -37,7 +35,7 @@ returns c =
     let judged = fault-is (c .before .before .before) in
     let loop = c .before .before .before .before .before in
     judged
-    ∙ sym (paths-stop _ _ _ (omega (arith, count-is (loop .before .before), c .before .before .before .before .loop-test)) (rw judged at (c .if1 .taken)))
+    ∙ sym (paths-stop _ _ _ (omega (arith, same-directories (loop .before .before .pre), c .before .before .before .before .loop-test)) (rw judged at (c .if1 .taken)))
     ∙ loop .loop .inv .1
 
 loop-again : tie.Need-loop-again Inv-loop μ-loop
@@ -45,11 +43,11 @@ loop-again c =
     let judged = fault-is (c .before .before .before) in
     let test = c .before .before .before .before in
     let loop = test .before in
-    let count = count-is (loop .before .before) in
+    let count = same-directories (loop .before .before .pre) in
     (omega (arith, test .loop-test), sym (paths-go-on _ _ _ _ (omega (arith, test .loop-test)) (rw judged at (c .if1 .left))) ∙ loop .loop .inv .1)
 
 returns-2 : tie.Need-returns-2 Inv-loop μ-loop
-returns-2 c = sym (paths-end _ _ _ (omega (arith, count-is (c .before .before .before)))) ∙ c .before .loop .inv .1
+returns-2 c = sym (paths-end _ _ _ (omega (arith, same-directories (c .before .before .before .pre)))) ∙ c .before .loop .inv .1
 
 pub paths-spec : {M : Type 1} → statement M
 paths-spec =
