@@ -2,8 +2,9 @@
 -- asked for.
 use Prim.Native.Nat.{ℕ, zero, suc, _≤_, _<_}
 use mathlib.Core.Path.{_≡_, refl, sym, ap, _∙_}
-use mathlib.Core.List.{List, [], _∷_, _++_}
-use mathlib.Core.Bool.{Bool, true, false, _&&_, and-eq-true-iff, not-eq-not, false≢true}
+use mathlib.Core.List.{List, [], _∷_, _++_, List-discrete}
+use mathlib.Core.Bool.{true, false, _&&_, and-eq-true-iff, not-eq-not, false≢true}
+use native.Mathlib.Decide.{ℕ-discrete}
 use native.Mathlib.Omega.{arith}
 use borrow.Author.Tests.{ltb-true, leb-true, eqb-true, eq-eqb}
 use lib.ListN.{length, take, drop, getD, take-append-drop}
@@ -31,11 +32,7 @@ pub other-unequal : (a b : List ℕ) → sameBytes a b ≡ false → a ≡ b →
 other-unequal a b e q = false≢true (sym e ∙ rw q (equal-same b))
 
 pub equal-or-not : (a b : List ℕ) → Dec (a ≡ b)
-equal-or-not a b = go (sameBytes a b) refl
-  where
-    go : (t : Bool) → sameBytes a b ≡ t → Dec (a ≡ b)
-    go true e = yes (same-equal a b e)
-    go false e = no (other-unequal a b e)
+equal-or-not a b = List-discrete ℕ-discrete a b
 
 -- a name that may be asked for: it has bytes, not too many, and is its own string, since no zero
 -- byte cuts it

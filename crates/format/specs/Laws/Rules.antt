@@ -1,26 +1,23 @@
 -- The numbers of the rules on tables and records, which of the rules on tables speaks, and what a
 -- record that keeps the rules tells.
 use Prim.Native.Nat.{ℕ, zero, suc, _+_, _*_, _≤_}
-use mathlib.Core.Path.{_≡_, refl, ap}
-use mathlib.Core.List.{List, []}
+use mathlib.Core.Path.{_≡_, refl}
+use mathlib.Core.List.{List}
 use mathlib.Core.Bool.{true, and-eq-true-iff}
-use native.Mathlib.Omega.{arith}
 use borrow.Author.Tests.{eqb-true}
 use lib.ListN.{length}
 use Rattle.format.specs.Layout.{imageSize}
 use Rattle.format.specs.Header.{directories, headerFault, pathFault, pathsFault, tablesFault}
-use Rattle.format.specs.Record.{namePart, nameOf, bucketOf, imagesAt, images, nameFault, listFault, recordFault, imagesFault, validName, validImage}
+use Rattle.format.specs.Record.{nameOf, bucketOf, imagesAt, images, nameFault, listFault, recordFault, imagesFault, validName, validImage}
 use Rattle.format.specs.Laws.Faults.{unless-none, orElse-first, orElse-next, orElse-none}
 use Rattle.format.specs.Laws.Numbers.{OneOf, tablesNumbers, recordNumbers, unless-one, orElse-one, widened}
 use Rattle.format.specs.Laws.Header.{header-number}
 use Rattle.format.specs.Laws.Reads.{list-ends}
-use Rattle.format.specs.Laws.Strings.{whole-string}
 
--- what a record tells that keeps rules 8 to 10: its name is whole and so not empty, stands in its
--- own bucket, and its images lie inside
+-- what a record tells that keeps rules 8 to 10: its name is whole, stands in its own bucket, and its
+-- images lie inside
 pub record ValidRecord (s : List ℕ) (k r : ℕ) : Type 0 where
   pub named : validName s r ≡ true
-  pub has-name : nameOf s r ≡ [] → ⊥
   pub home : bucketOf s (nameOf s r) ≡ k
   pub listed : imagesAt s r + 4 + 8 * images s r ≤ length s
 
@@ -65,10 +62,8 @@ module _ (s : List ℕ) where
     record-valid e =
         let name = orElse-none _ _ (orElse-none _ _ e .0) in
         let list = orElse-none _ _ (orElse-none _ _ e .1) in
-        let whole = unless-none _ _ _ (name .0) in
         record {
-          named = whole;
-          has-name = λ q. omega (arith, whole-string 255 (namePart s r) whole .some, ap length q);
+          named = unless-none _ _ _ (name .0);
           home = eqb-true _ _ (unless-none _ _ _ (name .1));
           listed = list-ends s (imagesAt s r) 8 (and-eq-true-iff _ _ .0 (unless-none _ _ _ (list .0)) .0);
         }

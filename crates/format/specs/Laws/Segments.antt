@@ -4,8 +4,9 @@ use Prim.Native.Nat.{ℕ, zero, suc}
 use mathlib.Core.Path.{_≡_, refl, ap, sym, _∙_}
 use mathlib.Core.List.{List, [], _∷_, _++_, append-nil}
 use mathlib.Core.Bool.{Bool, true, false, _&&_, and-assoc, and-true}
+use native.Mathlib.Decide.{ℕ-discrete}
 use native.Mathlib.Omega.{arith}
-use borrow.Author.Tests.{ne-eqb, eqb-true, eqb-false}
+use borrow.Author.Tests.{eq-eqb, ne-eqb, eqb-false}
 use lib.Dec.{eqb}
 use lib.ListN.{getD}
 use Rattle.format.specs.Choice.{if_then_else_}
@@ -16,14 +17,9 @@ use Rattle.format.specs.Segments.{slash, firstPiece, laterPieces, segmen
 segments-append : (a t : List ℕ) → segments (a ++ slash ∷ t) ≡ segments a ++ segments t
 unfolding segments firstPiece laterPieces
 segments-append [] t = refl
-segments-append (b ∷ a) t = go (eqb b slash) (segments-append a t)
-  where
-    go : (c : Bool) → segments (a ++ slash ∷ t) ≡ segments a ++ segments t
-        → _≡_ {A = List (List ℕ)}
-        ((if c then [] else b ∷ firstPiece (a ++ slash ∷ t)) ∷ (if c then segments (a ++ slash ∷ t) else laterPieces (a ++ slash ∷ t)))
-        ((if c then [] else b ∷ firstPiece a) ∷ ((if c then segments a else laterPieces a) ++ segments t))
-    go true e = rw e
-    go false e = cc
+segments-append (b ∷ a) t =
+    let e = segments-append a t in
+    elim (ℕ-discrete b slash) [ yes q ↦ rw (eq-eqb b slash q, e) | no q ↦ rw (ne-eqb b slash q) (cc) ]
 
 all-append : (ps qs : List (List ℕ)) → allValid (ps ++ qs) ≡ (allValid ps && allValid qs)
 unfolding allValid
@@ -69,12 +65,9 @@ pub record CutAtSlashes (path : List ℕ) (ps : List (List ℕ)) : Type 0 where
 segments-whole : (path : List ℕ) → together (segments path) ≡ slash ∷ path
 unfolding segments firstPiece laterPieces
 segments-whole [] = refl
-segments-whole (b ∷ t) = go (eqb b slash) refl (segments-whole t)
-  where
-    go : (c : Bool) → eqb b slash ≡ c → together (segments t) ≡ slash ∷ t
-        → together ((if c then [] else b ∷ firstPiece t) ∷ (if c then segments t else laterPieces t)) ≡ slash ∷ b ∷ t
-    go true q e = rw (e, eqb-true b slash q)
-    go false q e = cc
+segments-whole (b ∷ t) =
+    let e = segments-whole t in
+    elim (ℕ-discrete b slash) [ yes q ↦ rw (eq-eqb b slash q, e, q) | no q ↦ rw (ne-eqb b slash q) (cc) ]
 
 segments-free : (path : List ℕ) (m : ℕ) → NoSlash (getD (segments path) m [])
 unfolding segments firstPiece laterPieces

@@ -32,19 +32,20 @@ fault-is c = ap (λ (p : JudgedPath). p .fault) (c .path .ensures)
 
 returns : tie.Need-returns Inv-loop μ-loop
 returns c =
-    let judged = fault-is (c .before .before .before) in
-    let loop = c .before .before .before .before .before in
+    let path = c .before .before .before in
+    let loop = path .before .before in
+    let judged = fault-is path in
     judged
-    ∙ sym (paths-stop _ _ _ (omega (arith, same-directories (loop .before .before .pre), c .before .before .before .before .loop-test)) (rw judged at (c .if1 .taken)))
+    ∙ sym (paths-stop _ _ _ (omega (arith, same-directories (loop .before .before .pre), path .before .loop-test)) (rw judged at (c .if1 .taken)))
     ∙ loop .loop .inv .1
 
 loop-again : tie.Need-loop-again Inv-loop μ-loop
 loop-again c =
-    let judged = fault-is (c .before .before .before) in
-    let test = c .before .before .before .before in
-    let loop = test .before in
+    let path = c .before .before .before in
+    let loop = path .before .before in
     let count = same-directories (loop .before .before .pre) in
-    (omega (arith, test .loop-test), sym (paths-go-on _ _ _ _ (omega (arith, test .loop-test)) (rw judged at (c .if1 .left))) ∙ loop .loop .inv .1)
+    let kept = rw (fault-is path) at (c .if1 .left) in
+    (omega (arith, path .before .loop-test), sym (paths-go-on _ _ _ _ (omega (arith, path .before .loop-test)) kept) ∙ loop .loop .inv .1)
 
 returns-2 : tie.Need-returns-2 Inv-loop μ-loop
 returns-2 c = sym (paths-end _ _ _ (omega (arith, same-directories (c .before .before .before .pre)))) ∙ c .before .loop .inv .1
