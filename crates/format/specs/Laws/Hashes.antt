@@ -1,5 +1,5 @@
--- What a byte counts as, the hash of the first bytes of a name and what one byte more makes of it,
--- and the bucket that it gives.
+-- What a byte counts as, that the hash of a name goes on from 0 byte by byte, and the bucket that it
+-- gives.
 use Prim.Native.Nat.{ℕ, suc, _+_, _-_, _*_, _%_, _^_, _<_}
 use mathlib.Core.Path.{_≡_, refl, ap}
 use mathlib.Core.List.{List, [], _∷_, map}
@@ -53,7 +53,7 @@ pub ascii-hash : (name : List ℕ) → Ascii name → hash name ≡ hashNumbers 
 unfolding hash
 ascii-hash name low = ap hashNumbers (map-ascii name low)
 
--- the hash goes on from 0, since the first byte is the hash of itself
+-- the first byte is the hash of itself, so the hash may go on from 0 through all the bytes
 pub hash-from-none : (t : List ℕ) → getD t 0 0 < 256 → hashFrom 0 (map signed t) ≡ hash t
 unfolding hash hashNumbers hashFrom
 hash-from-none [] small = refl

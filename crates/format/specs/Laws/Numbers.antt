@@ -5,7 +5,7 @@ use mathlib.Core.Path.{_≡_, refl, sym, _∙_}
 use mathlib.Core.List.{List, [], _∷_}
 use mathlib.Core.Bool.{Bool, true, false, _&&_, _||_, and-eq-true-iff, false≢true}
 use native.Mathlib.Decide.{ℕ-discrete}
-use borrow.Author.Tests.{eqb-true}
+use borrow.Author.Tests.{ne-eqb}
 use lib.Dec.{eqb}
 use Rattle.format.specs.Fault.{unless, _orElse_}
 use Rattle.format.specs.declared.Fault.{Fault}
@@ -50,11 +50,9 @@ includes ms (n ∷ ns) = listed n ms && includes ms ns
 
 listed-in : (ns ms : List ℕ) (x : ℕ) → includes ms ns ≡ true → listed x ns ≡ true → listed x ms ≡ true
 listed-in [] ms x h e = absurd (false≢true e)
-listed-in (n ∷ ns) ms x h e = go (eqb x n) refl (listed-in ns ms x (and-eq-true-iff (listed n ms) _ .0 h .1))
-  where
-    go : (b : Bool) → eqb x n ≡ b → (listed x ns ≡ true → listed x ms ≡ true) → listed x ms ≡ true
-    go true q rest = rw (eqb-true x n q) (and-eq-true-iff (listed n ms) _ .0 h .0)
-    go false q rest = rest (rw q at e)
+listed-in (n ∷ ns) ms x h e =
+    let both = and-eq-true-iff (listed n ms) _ .0 h in
+    elim (ℕ-discrete x n) [ yes q ↦ rw q (both .0) | no q ↦ listed-in ns ms x (both .1) (rw (ne-eqb x n q) at e) ]
 
 pub widened : {ns ms : List ℕ} {x : ℕ} → includes (0 ∷ ms) (0 ∷ ns) ≡ true → OneOf ns x → OneOf ms x
 widened {ns} {ms} {x} h e = record { one = listed-in (0 ∷ ns) (0 ∷ ms) x h (e .one) }

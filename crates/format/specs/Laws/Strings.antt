@@ -1,4 +1,5 @@
--- Laws of strings: where one stops and how it goes on, and what each answer of `extent` says of it.
+-- Laws of strings: where one stops and how it goes on, what is left of it, and what each answer of
+-- `extent` says of it.
 use Prim.Native.Nat.{ℕ, zero, suc, _+_, _-_, _≤_, _<_, zero-le, suc-le-suc}
 use mathlib.Core.Path.{_≡_, refl, ap}
 use mathlib.Core.List.{List, [], _∷_}
@@ -58,6 +59,20 @@ module _ (t : List ℕ) (i : ℕ) (passed : Passed t i) where
   pub passed-next : (getD t i 0 ≡ 0 → ⊥) → Passed t (i + 1)
   passed-next nz = omega (arith, ap length (string-goes-on t i nz))
 
+-- what is answered after i bytes: at a zero byte, at one byte more than the limit, and at the end
+module _ (limit : ℕ) (t : List ℕ) (i : ℕ) (passed : Passed t i) where
+  pub extent-ended : i < length t → i ≤ limit → getD t i 0 ≡ 0 → ended i ≡ extent limit t
+  unfolding extent
+  extent-ended l h e = rw (passed-stops t i passed e, le-ltb limit i h, lt-leb (length t) i l)
+
+  pub extent-long : i ≡ limit → (getD t i 0 ≡ 0 → ⊥) → Long ≡ extent limit t
+  unfolding extent
+  extent-long e nz = rw (lt-ltb limit (length (string t)) (omega (arith, ap length (string-goes-on t i nz))))
+
+  pub extent-cut : i ≤ limit → length t ≤ i → Cut ≡ extent limit t
+  unfolding extent
+  extent-cut h l = rw (passed-stops t i passed (List·getD-eq-default t 0 l), le-ltb limit i h, le-leb (length t) i l)
+
 pub string-fits : (t : List ℕ) → length (string t) ≤ length t
 unfolding string
 string-fits [] = zero-le
@@ -76,6 +91,12 @@ pub record WholeString (limit : ℕ) (t : List ℕ) : Type 0 where
   pub within : length (string t) ≤ limit
   pub ended : length (string t) < length t
 
+pub whole-extent : (limit : ℕ) (t : List ℕ) → WholeString limit t → extent limit t ≡ Whole (length (string t))
+unfolding extent
+whole-extent limit t h =
+    let has-bytes : length (string t) ≡ 0 → ⊥ = λ z. omega arith in
+    simp (le-ltb _ _ (h .within), lt-leb _ _ (h .ended), ne-eqb _ _ has-bytes)
+
 -- each answer of `extent`, with what it says of the string
 pub data Judged (limit : ℕ) (t : List ℕ) : Extent → Type 0 where
   long : limit < length (string t) → Judged limit t Long
@@ -83,27 +104,6 @@ pub data Judged (limit : ℕ) (t : List ℕ) : Extent → Type 0 where
   empty : 0 < length t → length (string t) ≡ 0 → Judged limit t Empty
   whole : {n : ℕ} → n ≡ length (string t) → WholeString limit t → Judged limit t (Whole n)
 
-pub whole-extent : (limit : ℕ) (t : List ℕ) → WholeString limit t → extent limit t ≡ Whole (length (string t))
-unfolding extent
-whole-extent limit t h =
-    let has-bytes : length (string t) ≡ 0 → ⊥ = λ z. omega arith in
-    simp (le-ltb _ _ (h .within), lt-leb _ _ (h .ended), ne-eqb _ _ has-bytes)
-
--- what is answered after i bytes: at a zero byte, at one byte more than the limit, and at the end
-module _ (limit : ℕ) (t : List ℕ) (i : ℕ) (passed : Passed t i) where
-  pub extent-ended : i < length t → i ≤ limit → getD t i 0 ≡ 0 → ended i ≡ extent limit t
-  unfolding extent
-  extent-ended l h e = rw (passed-stops t i passed e, le-ltb limit i h, lt-leb (length t) i l)
-
-  pub extent-long : i ≡ limit → (getD t i 0 ≡ 0 → ⊥) → Long ≡ extent limit t
-  unfolding extent
-  extent-long e nz = rw (lt-ltb limit (length (string t)) (omega (arith, ap length (string-goes-on t i nz))))
-
-  pub extent-cut : i ≤ limit → length t ≤ i → Cut ≡ extent limit t
-  unfolding extent
-  extent-cut h l = rw (passed-stops t i passed (List·getD-eq-default t 0 l), le-ltb limit i h, le-leb (length t) i l)
-
--- and the answer says what holds of it
 pub judged : (limit : ℕ) (t : List ℕ) → Judged limit t (extent limit t)
 unfolding extent
 judged limit t = go (ltb limit (length (string t))) refl (leb (length t) (length (string t))) refl (eqb (length (string t)) 0) refl

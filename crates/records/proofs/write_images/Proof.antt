@@ -34,7 +34,8 @@ loop-again c =
     let one-image = words-cons (now (a .cache)) (a .m - (i - 1)) (a .at + 8 * (i - 1)) (a .m - i) (omega arith) in (
       omega arith,
       simp length-set (l .loop .inv .1),
-      two-stored (l .loop .words) (2 * (i - 1)) _ _ (omega arith) ∙ rw (words-after, l .loop .inv .2, one-image, image-after, c .before .first-word .ensures .0, c .u32-at .ensures),
+      two-stored (l .loop .words) (2 * (i - 1)) _ _ (omega arith)
+          ∙ rw (words-after, l .loop .inv .2, one-image, image-after, c .before .first-word .ensures .0, c .u32-at .ensures),
     )
 
 returns : tie.Need-returns Inv-loop μ-loop

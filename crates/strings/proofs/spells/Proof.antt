@@ -2,12 +2,12 @@
 -- zero byte (`Begins`). The loop's invariant: the bytes passed are the same in both.
 use Prim.Native.Nat.{ℕ, _+_, _-_, _≤_, _<_}
 use mathlib.Core.Path.{_≡_, refl, sym, ap, _∙_}
-use mathlib.Core.List.{List, [], _∷_, _++_}
-use mathlib.Core.Bool.{Bool, true, false, not-eq-not}
+use mathlib.Core.List.{List}
+use mathlib.Core.Bool.{true, false, not-eq-not}
 use native.Mathlib.Numerals.{add-one}
+use native.Mathlib.Decide.{ℕ-discrete}
 use native.Mathlib.Omega.{arith}
-use borrow.Author.Needs.{needs}
-use borrow.Author.Tests.{eqb-true, eqb-false}
+use borrow.Author.Tests.{eq-eqb, ne-eqb}
 use lib.Dec.{eqb}
 use lib.ListN.{length, take, getD}
 use denote.Ref.{now}
@@ -27,11 +27,10 @@ module _ (part name : List ℕ) where
 
   -- the byte after the name decides
   decided : allowed name ≡ true → length name < length part → take (length name) part ≡ name → eqb (getD part (length name) 0) 0 ≡ spellsName part name
-  decided may room same = go (eqb (getD part (length name) 0) 0) refl
-    where
-      go : (b : Bool) → eqb (getD part (length name) 0) 0 ≡ b → b ≡ spellsName part name
-      go true e = sym (begins-spells part name may (record { bytes = same; room = room; ended = eqb-true _ _ e }))
-      go false e = otherwise (λ b. eqb-false _ _ e (b .ended))
+  decided may room same = elim (ℕ-discrete (getD part (length name) 0) 0) [
+    | yes e ↦ rw (eq-eqb _ _ e) (sym (begins-spells part name may (record { bytes = same; room = room; ended = e })))
+    | no d ↦ rw (ne-eqb _ _ d) (otherwise (λ b. d (b .ended)))
+  ]
 
 abbrev Inv-loop : tie.InvT-loop
 Inv-loop part name end i₀ i = (i ≤ end) × (take i part ≡ take i name)
