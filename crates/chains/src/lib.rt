@@ -60,8 +60,8 @@ pub fn follow(cache: &[u8], t: Tables, bucket: u32, field: usize) -> Next
     Next::Record(record)
 }
 
-// The same, with a name of this bucket to look for. The record's name is compared with it first: one
-// that is equal keeps rules 8 and 9, and isn't read again.
+// The same, with a name of this bucket to look for. The record's name is compared with it first:
+// one that is equal keeps rules 8 and 9, and isn't read again.
 fn seek(cache: &[u8], t: Tables, bucket: u32, field: usize, name: &[u8]) -> Seen
     requires { ⌜ TablesOf (now cache) t ⌝ }
     requires { ⌜ field + 4 ≤ length (now cache) ⌝ }

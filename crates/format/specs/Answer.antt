@@ -6,8 +6,8 @@ use Rattle.format.specs.declared.LookupAnswer.{LookupAnswer}
 use Rattle.format.specs.declared.DirectoryAnswer.{DirectoryAnswer}
 use Rattle.format.specs.declared.DirectoryPart.{DirectoryPart}
 
--- the check's answer; accepted, with d directories and i icons, each opened; refused by rule x at p,
--- after o records
+-- the check's answer; accepted, with d directories and i icons, each opened; refused by rule x at
+-- p, after o records
 abbrev pub checked : ℕ → ℕ → ℕ → ℕ → ℕ → CheckAnswer
 checked n p d i o = record { number = n; place = p; directories = d; icons = i; opened = o }
 

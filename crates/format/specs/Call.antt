@@ -85,8 +85,8 @@ withImages s room a =
 unfoldable pub lookup : List ℕ → List ℕ → ℕ → LookupAnswer
 lookup s name room = withImages s room (find s name)
 
--- the lent words after an answer: with number 0 the images' words and then what was there, else what
--- was there
+-- the lent words after an answer: with number 0 the images' words and then what was there, else
+-- what was there
 unfoldable pub answerWords : List ℕ → List ℕ → LookupAnswer → List ℕ
 answerWords s words a =
     elim (a .number) [

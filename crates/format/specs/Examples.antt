@@ -1,6 +1,6 @@
 -- More examples, under one proved statement: rules at their limits (the most directories and images
--- stand in the program `cases`), parts in the header, loops, and the paths of request 4. Every answer
--- was worked out from the documents.
+-- stand in the program `cases`), parts in the header, loops, and the paths of request 4. Every
+-- answer was worked out from the documents.
 use Prim.Native.Nat.{ℕ}
 use mathlib.Core.Path.{_≡_}
 use mathlib.Core.List.{List}
@@ -11,7 +11,7 @@ use Rattle.format.specs.Layout.{majorField}
 use Rattle.format.specs.Number.{be}
 use Rattle.format.specs.Fault.{_orElse_}
 use Rattle.format.specs.String.{string, extent, isWhole, sameBytes, signed, hashFrom, hashNumbers, hash, allowed}
-use Rattle.format.specs.Segments.{segments, firstPiece, laterPieces, validSegment, allValid}
+use Rattle.format.specs.Segments.{segments, firstSegment, laterSegments, validSegment, allValid}
 use Rattle.format.specs.Header.{headerFault, pathFault, pathsFault, tablesFault}
 use Rattle.format.specs.Record.{imagesFault, nameFault, listFault, recordFault, imageWords}
 use Rattle.format.specs.Chain.{linkFault, follow, chain}
@@ -26,7 +26,7 @@ pub mod Tables
 pub mod Records
 
 examples-hold : T (all tableExamples && all headerExamples && all recordExamples && all loopExamples && all pathExamples)
-unfolding all holds tableExamples headerExamples recordExamples loopExamples pathExamples small none put header start bare hashLast twoInHeader named pathed undirected recordLast lent looped patched farm cow oat pig sameCheck sameLookup sameDirectory check checkBuckets firstNamed searchBucket queryFault find withImages lookup foundAnswer answerWords directoryFault directory directoryPath linkFault follow chain recordFault nameFault listFault imagesFault imageWords headerFault segments firstPiece laterPieces validSegment allValid pathFault pathsFault tablesFault _orElse_ extent string isWhole sameBytes signed hashFrom hashNumbers hash allowed be
+unfolding all holds tableExamples headerExamples recordExamples loopExamples pathExamples small none put header start bare hashLast twoInHeader named pathed undirected recordLast lent looped patched farm cow oat pig sameCheck sameLookup sameDirectory check checkBuckets firstNamed searchBucket queryFault find withImages lookup foundAnswer answerWords directoryFault directory directoryPath linkFault follow chain recordFault nameFault listFault imagesFault imageWords headerFault segments firstSegment laterSegments validSegment allValid pathFault pathsFault tablesFault _orElse_ extent string isWhole sameBytes signed hashFrom hashNumbers hash allowed be
 examples-hold = tt
 
 -- every buffer of 16,777,217 bytes is refused with 2, and of 16,777,216 with 3 where MAJOR is 2

@@ -14,27 +14,27 @@ abbrev pub dot : ℕ
 dot = 46
 
 -- the bytes before the first slash
-unfoldable pub firstPiece : List ℕ → List ℕ
-firstPiece [] = []
-firstPiece (b ∷ t) = if eqb b slash then [] else b ∷ firstPiece t
+unfoldable pub firstSegment : List ℕ → List ℕ
+firstSegment [] = []
+firstSegment (b ∷ t) = if eqb b slash then [] else b ∷ firstSegment t
 
 -- after each slash, the bytes before the next one
-unfoldable pub laterPieces : List ℕ → List (List ℕ)
-laterPieces [] = []
-laterPieces (b ∷ t) = if eqb b slash then firstPiece t ∷ laterPieces t else laterPieces t
+unfoldable pub laterSegments : List ℕ → List (List ℕ)
+laterSegments [] = []
+laterSegments (b ∷ t) = if eqb b slash then firstSegment t ∷ laterSegments t else laterSegments t
 
--- the pieces of a path that is cut at each slash; a piece may be empty
+-- the segments of a path: its pieces, cut at each slash; a segment may be empty
 unfoldable pub segments : List ℕ → List (List ℕ)
-segments path = firstPiece path ∷ laterPieces path
+segments path = firstSegment path ∷ laterSegments path
 
 -- a segment that a path may have: not empty, not "." and not ".."
 unfoldable pub validSegment : List ℕ → Bool
-validSegment p = not (sameBytes p []) && not (sameBytes p (dot ∷ [])) && not (sameBytes p (dot ∷ dot ∷ []))
+validSegment t = not (sameBytes t []) && not (sameBytes t (dot ∷ [])) && not (sameBytes t (dot ∷ dot ∷ []))
 
 -- each segment is valid
 unfoldable pub allValid : List (List ℕ) → Bool
 allValid [] = true
-allValid (p ∷ ps) = validSegment p && allValid ps
+allValid (t ∷ ts) = validSegment t && allValid ts
 
 -- what rule 16 asks of a path
 abbrev pub validSegments : List ℕ → Bool

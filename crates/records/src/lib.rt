@@ -26,7 +26,7 @@ struct ValidWords {
     span: u32,
 }
 
-// The same where there are `n` directories.
+// Those where there are `n` directories.
 fn valid_words(n: u32) -> ValidWords
     requires { ⌜ n < 65536 ⌝ }
     ensures { λ r. ⌜ r ≡ validWords n ⌝ }
@@ -114,8 +114,8 @@ fn name_part(cache: &[u8], record: usize) -> &[u8]
     strings::from(cache, at)
 }
 
-// Rules 8 and 9 on the name of `record`, on the chain of `bucket`. A name that is
-// `known` to keep them isn't read.
+// Rules 8 and 9 on the name of `record`, on the chain of `bucket`. A name that is `known` to keep
+// them isn't read.
 fn judge_name(cache: &[u8], t: Tables, bucket: u32, record: usize, known: bool) -> Fault
     requires { ⌜ TablesOf (now cache) t ⌝ }
     requires { ⌜ «record» + 12 ≤ length (now cache) ⌝ }
@@ -166,8 +166,8 @@ fn judge_images(cache: &[u8], t: Tables, record: usize) -> Fault
     images(cache, n, m, at + 4)
 }
 
-// The first of the rules 8 to 11 that `record` breaks, on the chain of `bucket`. A
-// name that is `known` to keep 8 and 9 isn't read.
+// The first of the rules 8 to 11 that `record` breaks, on the chain of `bucket`. A name that is
+// `known` to keep 8 and 9 isn't read.
 pub fn judge(cache: &[u8], t: Tables, bucket: u32, record: usize, known: bool) -> Fault
     requires { ⌜ TablesOf (now cache) t ⌝ }
     requires { ⌜ «record» + 12 ≤ length (now cache) ⌝ }

@@ -22,8 +22,8 @@ one-more t a i l g =
     let k : a + (i - a) ≡ i = omega arith in
     rw (e, take-suc (drop a t) (i - a) 0 (omega (arith, length-drop a t)), getD-drop, k)
 
--- i bytes are read, the last segment starts at a, and `valid` says whether those before it are such;
--- with the bytes that are left they are judged as the whole path is
+-- i bytes are read, the last segment starts at a, and `valid` says whether those before it are
+-- such; with the bytes that are left they are judged as the whole path is
 pub record Reading (t : List ℕ) (valid : Bool) (a i : ℕ) : Type 0 where
   pub started : a ≤ i
   pub inside : i ≤ length t

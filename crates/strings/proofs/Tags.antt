@@ -1,4 +1,4 @@
--- What a `match` on a `Extent` tells: the variants are counted from 0, and `Whole` is the first.
+-- What a `match` on an `Extent` tells: the variants are counted from 0, and `Whole` is the first.
 use mathlib.Core.Path.{_≡_, refl, _∙_}
 use mathlib.Core.Logic.{_⊎_, ⊎-elim}
 use mathlib.Core.Bool.{true, false}

@@ -1,5 +1,4 @@
 -- `cases::run` is safe and ends: one line each turn. The buffers keep their lengths.
--- Assumes nothing.
 use Prim.Native.Nat.{_-_}
 use mathlib.Core.Path.{_≡_}
 use lib.ListN.{length}

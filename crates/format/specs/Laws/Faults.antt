@@ -1,4 +1,5 @@
--- Judgements put one after the other: which of them speaks, and what follows when none does.
+-- Judgements put one after the other: which of them counts, and what follows where no rule is
+-- broken.
 use Prim.Native.Nat.{ℕ, suc, _-_}
 use mathlib.Core.Path.{_≡_, refl, ap}
 use mathlib.Core.Bool.{Bool, true, false}
@@ -34,7 +35,7 @@ pub unless-none : (b : Bool) (n p : ℕ) → unless b (suc n) p .number ≡ 0 �
 unless-none true n p h = refl
 unless-none false n p h = absurd (omega arith)
 
--- a rule that is broken speaks, and one that is kept leaves the word to the next
+-- a broken rule is the judgement; a kept one leaves it to the rules after it
 pub broken-speaks : (b : Bool) (n p : ℕ) (y : Fault) → b ≡ false → unless b (suc n) p orElse y ≡ fault (suc n) p
 unfolding _orElse_
 broken-speaks b n p y e = rw e

@@ -1,5 +1,5 @@
--- What a byte counts as, that the hash of a name goes on from 0 byte by byte, and the bucket that it
--- gives.
+-- What a byte counts as, that the hash of a name goes on from 0 byte by byte, and the bucket that
+-- it gives.
 use Prim.Native.Nat.{ℕ, suc, _+_, _-_, _*_, _%_, _^_, _<_}
 use mathlib.Core.Path.{_≡_, refl, ap}
 use mathlib.Core.List.{List, [], _∷_, map}
@@ -20,8 +20,8 @@ ends : T (eqb (signed 127) 127 && eqb (signed 128) (2 ^ 32 - 128) && eqb (signed
 unfolding signed
 ends = tt
 
--- request 1's example, the two bytes of é, now and before; and the first of them alone, which is
--- signed too
+-- request 1's example, the two bytes of é, signed and as they stand; and the first of them alone,
+-- which is signed too
 accented : T (eqb (hash (0xC3 ∷ 0xA9 ∷ [])) 4294965318 && eqb (hashNumbers (0xC3 ∷ 0xA9 ∷ [])) 6214 && eqb (hash (0xC3 ∷ [])) 4294967235)
 unfolding hash hashNumbers hashFrom signed
 accented = tt
@@ -48,7 +48,7 @@ map-ascii : (name : List ℕ) → Ascii name → map signed name ≡ name
 map-ascii [] low = refl
 map-ascii (b ∷ t) low = cc (signed-low b (low 0 (omega arith)), map-ascii t (λ i l. low (suc i) (omega arith)))
 
--- such a name has the hash that it had before request 1, when each byte counted as it stands
+-- such a name has document 01's hash, where each byte counts as it stands
 pub ascii-hash : (name : List ℕ) → Ascii name → hash name ≡ hashNumbers name
 unfolding hash
 ascii-hash name low = ap hashNumbers (map-ascii name low)

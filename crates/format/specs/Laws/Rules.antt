@@ -1,5 +1,5 @@
--- The numbers of the rules on tables and records, which of the rules on tables speaks, and what a
--- record that keeps the rules tells.
+-- The numbers of the rules on tables and records, which of the rules on tables is broken first, and
+-- what a record that keeps the rules tells.
 use Prim.Native.Nat.{ℕ, zero, suc, _+_, _*_, _≤_}
 use mathlib.Core.Path.{_≡_, refl}
 use mathlib.Core.List.{List}
@@ -14,8 +14,8 @@ use Rattle.format.specs.Laws.Numbers.{OneOf, tablesNumbers, recordNumber
 use Rattle.format.specs.Laws.Header.{header-number}
 use Rattle.format.specs.Laws.Reads.{list-ends}
 
--- what a record tells that keeps rules 8 to 10: its name is whole, stands in its own bucket, and its
--- images lie inside
+-- what a record tells that keeps rules 8 to 10: its name is whole, stands in its own bucket, and
+-- its images lie inside
 pub record ValidRecord (s : List ℕ) (k r : ℕ) : Type 0 where
   pub named : validName s r ≡ true
   pub home : bucketOf s (nameOf s r) ≡ k

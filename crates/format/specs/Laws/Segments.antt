@@ -10,12 +10,12 @@ use borrow.Author.Tests.{eq-eqb, ne-eqb, eqb-false}
 use lib.Dec.{eqb}
 use lib.ListN.{getD}
 use Rattle.format.specs.Choice.{if_then_else_}
-use Rattle.format.specs.Segments.{slash, firstPiece, laterPieces, segments, validSegment, allValid, validSegments}
+use Rattle.format.specs.Segments.{slash, firstSegment, laterSegments, segments, validSegment, allValid, validSegments}
 
 -- the segments of two paths with a slash between them are those of the one and then those of the
 -- other
 segments-append : (a t : List ℕ) → segments (a ++ slash ∷ t) ≡ segments a ++ segments t
-unfolding segments firstPiece laterPieces
+unfolding segments firstSegment laterSegments
 segments-append [] t = refl
 segments-append (b ∷ a) t =
     let e = segments-append a t in
@@ -40,7 +40,7 @@ more-free (c ∷ p) b h other zero e = h zero e
 more-free (c ∷ p) b h other (suc n) e = more-free p b (λ m. h (suc m)) other n e
 
 free-segment : (p : List ℕ) → NoSlash p → segments p ≡ p ∷ []
-unfolding segments firstPiece laterPieces
+unfolding segments firstSegment laterSegments
 free-segment [] h = refl
 free-segment (b ∷ p) h = let e = free-segment p (λ n. h (suc n)) in rw (ne-eqb b slash (h zero)) (cc)
 
@@ -63,20 +63,20 @@ pub record CutAtSlashes (path : List ℕ) (ps : List (List ℕ)) : Type 0 where
   pub free : (m : ℕ) → NoSlash (getD ps m [])
 
 segments-whole : (path : List ℕ) → together (segments path) ≡ slash ∷ path
-unfolding segments firstPiece laterPieces
+unfolding segments firstSegment laterSegments
 segments-whole [] = refl
 segments-whole (b ∷ t) =
     let e = segments-whole t in
     elim (ℕ-discrete b slash) [ yes q ↦ rw (eq-eqb b slash q, e, q) | no q ↦ rw (ne-eqb b slash q) (cc) ]
 
 segments-free : (path : List ℕ) (m : ℕ) → NoSlash (getD (segments path) m [])
-unfolding segments firstPiece laterPieces
+unfolding segments firstSegment laterSegments
 segments-free [] zero n e = absurd (omega arith)
 segments-free [] (suc m) n e = absurd (omega arith)
 segments-free (b ∷ t) m n e = go (eqb b slash) refl (segments-free t) m n e
   where
     go : (c : Bool) → eqb b slash ≡ c → ((m : ℕ) → NoSlash (getD (segments t) m []))
-        → (m : ℕ) → NoSlash (getD ((if c then [] else b ∷ firstPiece t) ∷ (if c then segments t else laterPieces t)) m [])
+        → (m : ℕ) → NoSlash (getD ((if c then [] else b ∷ firstSegment t) ∷ (if c then segments t else laterSegments t)) m [])
     go true q h zero n e = absurd (omega arith)
     go true q h (suc m) n e = h m n e
     go false q h zero zero e = eqb-false b slash q e

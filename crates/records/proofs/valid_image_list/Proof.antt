@@ -1,5 +1,5 @@
--- `records::valid_image_list` meets its contract: where the list lies inside its count decides, and its
--- count can be read (the law `list-ends`).
+-- `records::valid_image_list` meets its contract: where the list lies inside its count decides, and
+-- its count can be read (the law `list-ends`).
 use mathlib.Core.Path.{_∙_, sym}
 use native.Mathlib.Omega.{arith}
 use borrow.Author.Needs.{needs}

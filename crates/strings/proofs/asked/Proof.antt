@@ -1,5 +1,5 @@
--- `strings::asked` meets its contract. A name that has bytes is allowed just where `read_name` finds
--- it cut off: no zero byte came, and no more than 255 bytes are there. Rests on `judged` and
+-- `strings::asked` meets its contract. A name that has bytes is allowed just where `read_name`
+-- finds it cut off: no zero byte came, and no more than 255 bytes are there. Rests on `judged` and
 -- `string-fits`.
 use Prim.Native.Nat.{ℕ, _<_, _≤_}
 use mathlib.Core.Path.{_≡_, sym, _∙_}

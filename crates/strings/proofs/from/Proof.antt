@@ -1,5 +1,5 @@
--- `strings::from` meets its contract: the part from `at` on is all that is left after it, and past the
--- end nothing is.
+-- `strings::from` meets its contract: the part from `at` on is all that is left after it, and past
+-- the end nothing is.
 use Prim.Native.Nat.{_-_, _≤_}
 use mathlib.Core.Path.{sym}
 use native.Mathlib.Omega.{arith}

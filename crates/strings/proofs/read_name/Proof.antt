@@ -1,6 +1,6 @@
--- `strings::read_name` meets its contract. The bytes of the string are passed one by one (`Passed`),
--- so at each `return` its length is known. The rest equals the whole: the hash so far goes on, with
--- the bytes that are left, to the hash asked for, and at each `return` none is left.
+-- `strings::read_name` meets its contract. The bytes of the string are passed one by one
+-- (`Passed`), so at each `return` its length is known. The rest equals the whole: the hash so far
+-- goes on, with the bytes that are left, to the hash asked for, and at each `return` none is left.
 use Prim.Native.Nat.{_-_, _≤_, _<_}
 use mathlib.Core.Path.{_≡_, _∙_}
 use mathlib.Core.List.{map}

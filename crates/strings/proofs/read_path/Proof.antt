@@ -1,7 +1,7 @@
--- `strings::read_path` meets its contract. The bytes of the string are passed one by one (`Passed`),
--- so at each `return` its length is known. What is left from the last segment's start on is that
--- segment, as far as it is read, and the bytes not read yet; it and the segments before, judged
--- together, are the whole path judged (`Reading`).
+-- `strings::read_path` meets its contract. The bytes of the string are passed one by one
+-- (`Passed`), so at each `return` its length is known. What is left from the last segment's start
+-- on is that segment, as far as it is read, and the bytes not read yet; it and the segments before,
+-- judged together, are the whole path judged (`Reading`).
 use Prim.Native.Nat.{_-_}
 use mathlib.Core.Path.{refl, _∙_}
 use mathlib.Core.Logic.{⊎-elim}

@@ -1,5 +1,5 @@
--- `strings::signed` meets its contract: what it answers and the signed number are the same when 128 is
--- added to both and wrapped. Rests on `signed-raised` and `taken-away`.
+-- `strings::signed` meets its contract: what it answers and the signed number are the same when 128
+-- is added to both and wrapped. Rests on `signed-raised` and `taken-away`.
 use mathlib.Core.Path.{sym, _∙_}
 use native.Mathlib.Nat.{mod-eq-of-lt}
 use native.Mathlib.Omega.{arith}

@@ -1,4 +1,5 @@
--- `strings::times31` meets its contract. Rests on `shifted-less-itself`, which is the whole argument.
+-- `strings::times31` meets its contract. Rests on `shifted-less-itself`, which is the whole
+-- argument.
 use borrow.Author.Needs.{needs}
 use Rattle.strings.proofs.Wrapping.{shifted-less-itself}
 use Rattle.strings.proofs.times31.Statement.{statement}

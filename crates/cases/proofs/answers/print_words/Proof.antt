@@ -1,5 +1,4 @@
 -- `cases::answers::print_words` is safe and ends: one word each turn.
--- Assumes nothing.
 use Prim.Native.Nat.{_-_}
 use lib.ListN.{length}
 use borrow.Author.Needs.{needs}

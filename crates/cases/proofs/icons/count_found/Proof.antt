@@ -1,5 +1,4 @@
 -- `cases::icons::count_found` is safe and ends: one icon each turn.
--- Assumes nothing.
 use Prim.Native.Nat.{_-_}
 use borrow.Author.Needs.{needs}
 use Rattle.cases.proofs.icons.count_found.Statement.{statement}

@@ -1,5 +1,4 @@
 -- `cases::images::count_right` is safe and ends: one image each turn.
--- Assumes nothing.
 use Prim.Native.Nat.{_-_}
 use borrow.Author.Needs.{needs}
 use Rattle.cases.proofs.images.count_right.Statement.{statement}

@@ -1,5 +1,4 @@
 -- `cases::images::put` is safe and ends: one image each turn. The cache keeps its length.
--- Assumes nothing.
 use Prim.Native.Nat.{_-_}
 use mathlib.Core.Path.{_≡_}
 use lib.ListN.{length}

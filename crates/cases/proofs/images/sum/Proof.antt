@@ -1,5 +1,4 @@
 -- `cases::images::sum` is safe and ends: one word each turn. The sum wraps by its own rule.
--- Assumes nothing.
 use Prim.Native.Nat.{_-_}
 use lib.ListN.{length}
 use borrow.Author.Needs.{needs}

@@ -1,5 +1,4 @@
--- `cases::script::find` is right and ends: one byte each turn, from `at` on.
--- Assumes nothing.
+-- `cases::script::find` meets its contract and ends: one byte each turn, from `at` on.
 use Prim.Native.Nat.{_≤_, _-_}
 use lib.ListN.{length}
 use borrow.Author.Needs.{needs}

@@ -1,5 +1,4 @@
 -- `cases::script::number` is safe and ends: one digit each turn.
--- Assumes nothing.
 use Prim.Native.Nat.{_-_}
 use lib.ListN.{length}
 use borrow.Author.Needs.{needs}
