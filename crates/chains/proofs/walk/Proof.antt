@@ -52,11 +52,13 @@ returns c =
     let step = c .before in
     stopped _ (chain-stops _ _ _ _ _ (c .match .keys2) (sym (step .before .follow .ensures))) (step .opens .ensures) ∙ step .before .before .loop .inv .2
 
--- a turn that leads to a record: what its field leads to, and that it opens one
+-- a turn that leads to a record: where it began, what its field leads to, and that it opens one
+abbrev turn : tie.After-known-told Inv-loop μ-loop → tie.At-loop Inv-loop μ-loop
+turn c = c .before .before .before .before .before
+
 led : (c : tie.After-known-told Inv-loop μ-loop)
-    → let l = c .before .before .before .before .before in
-    let a = l .before .before .before .args in
-    follow (now (a .cache)) (a .bucket) (l .loop .field) ≡ Record (c .before .after .given .0 .0)
+    → let a = turn c .before .before .before .args in
+    follow (now (a .cache)) (a .bucket) (turn c .loop .field) ≡ Record (c .before .after .given .0 .0)
 led c = sym (c .before .before .before .before .follow .ensures) ∙ c .before .after .given .1
 
 one : (c : tie.After-known-told Inv-loop μ-loop) → c .before .before .before .opens .result ≡ 1
@@ -64,13 +66,13 @@ one c = c .before .before .before .opens .ensures ∙ ap opens (c .before .after
 
 returns-2 : tie.Need-returns-2 Inv-loop μ-loop
 returns-2 c =
-    let l = c .before .before .before .before .before .before in
+    let l = turn (c .before) in
     let full : l .before .before .before .args .most - l .loop .opened ≡ 0 = omega (arith, one (c .before)) in
     stopped _ (chain-full _ _ _ ∙ ap (chained []) (led (c .before))) (one (c .before)) ∙ rw full at (l .loop .inv .2)
 
 loop-again : tie.Need-loop-again Inv-loop μ-loop
 loop-again c =
-    let l = c .before .before .before .before .before .before in
+    let l = turn (c .before) in
     let most = l .before .before .before .args .most in
     let more : most - l .loop .opened ≡ suc (most - (l .loop .opened + 1)) = omega (arith, one (c .before)) in
     rw (one (c .before))

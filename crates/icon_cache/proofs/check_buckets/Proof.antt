@@ -28,37 +28,40 @@ Inv-loop cache t n most bucket₀ opened₀ bucket opened =
 abbrev μ-loop : tie.MeasureT-loop
 μ-loop cache t n most bucket₀ opened₀ bucket opened = n - bucket
 
+abbrev start : tie.At-loop Inv-loop μ-loop → tie.Start Inv-loop μ-loop
+start l = l .before .before
+
 -- a turn is one bucket more
 turn : (c : tie.In-loop Inv-loop μ-loop)
     → let l = c .before in
-    let a = l .before .before .args in
+    let a = start l .args in
     checkBuckets (suc (a .t .buckets - (l .loop .bucket + 1))) (now (a .cache)) (l .loop .bucket) (l .loop .opened) ≡ checkBuckets (buckets (now (a .cache))) (now (a .cache)) 0 0
 turn c =
     let l = c .before in
-    let n = l .before .before .args .t .buckets in
+    let n = start l .args .t .buckets in
     let more : n - l .loop .bucket ≡ suc (n - (l .loop .bucket + 1)) = omega arith in
     rw more at (l .loop .inv .2)
 
 -- the walk along its chain: how many records it opens, and what comes after them
 module _ (c : tie.After-walk Inv-loop μ-loop) where
   counted : let l = c .before .before in
-      let s = now (l .before .before .args .cache) in
+      let s = now (start l .args .cache) in
       l .loop .opened + openedOn (chainOf s (l .loop .bucket) (mostRecords s - l .loop .opened)) ≡ l .loop .opened + c .walk .result .opened
   counted = ap (λ (w : Walked). c .before .before .loop .opened + w .opened) (sym (c .walk .ensures))
 
   after : {e : Next} → c .walk .result .after ≡ e
       → let l = c .before .before in
-      let s = now (l .before .before .args .cache) in
+      let s = now (start l .args .cache) in
       chainOf s (l .loop .bucket) (mostRecords s - l .loop .opened) .after ≡ e
   after q = sym (ap (λ (w : Walked). w .after) (c .walk .ensures)) ∙ q
 
   -- they are no more than may be passed, and one that comes after them
   within : let l = c .before .before in
-      let s = now (l .before .before .args .cache) in
+      let s = now (start l .args .cache) in
       l .loop .opened + c .walk .result .opened ≤ mostRecords s + opens (c .walk .result .after)
   within =
       let l = c .before .before in
-      let s = now (l .before .before .args .cache) in
+      let s = now (start l .args .cache) in
       omega (arith, counted, ap opens (after refl), chain-short (mostRecords s - l .loop .opened) s (l .loop .bucket) (bucketField s (l .loop .bucket)))
 
 returns : tie.Need-returns Inv-loop μ-loop
@@ -73,7 +76,7 @@ returns-2 c =
     let w = told .before .before .before in
     let l = w .before .before in
     c .refused2 .ensures
-    ∙ rw (c .before .bucket-field .ensures, same-field (l .before .before .pre) (l .loop .bucket))
+    ∙ rw (c .before .bucket-field .ensures, same-field (start l .pre) (l .loop .bucket))
     (sym (bucket-goes-on _ _ _ _ (counted w) (after w (told .enum-told .given .1))))
     ∙ turn (w .before)
 
@@ -87,9 +90,8 @@ returns-3 : tie.Need-returns-3 Inv-loop μ-loop
 unfolding checkBuckets
 returns-3 c =
     let l = c .before .before in
-    let start = l .before .before in
-    let none : start .args .t .buckets - l .loop .bucket ≡ 0 = omega arith in
-    rw (same-directories (start .pre)) (rw none at (l .loop .inv .2))
+    let none : start l .args .t .buckets - l .loop .bucket ≡ 0 = omega arith in
+    rw (same-directories (start l .pre)) (rw none at (l .loop .inv .2))
 
 pub check-buckets-spec : {M : Type 1} → statement M
 check-buckets-spec =
@@ -100,8 +102,8 @@ check-buckets-spec =
     (λ c. omega (arith, valid-header (c .before .pre)))
     (λ c. (omega arith, omega arith, rw (sub-zero, same-buckets (c .before .pre))))
     (λ c. omega arith)
-    (λ c κs. let pre = c .before .before .before .pre in (pre, (omega (arith, same-buckets pre), omega (arith, valid-header pre))))
-    (λ c. omega (arith, within (c .before), opens-one (c .before .walk .result .after), valid-header (c .before .before .before .before .before .pre)))
+    (λ c κs. let pre = start (c .before) .pre in (pre, (omega (arith, same-buckets pre), omega (arith, valid-header pre))))
+    (λ c. omega (arith, within (c .before), opens-one (c .before .walk .result .after), valid-header (start (c .before .before .before) .pre)))
     (λ c. c .match .keys1)
     (λ c κs. search needs)
     returns

@@ -18,20 +18,27 @@ use Rattle.tables.specs.Laws.{valid-header, same-buckets}
 use Rattle.icon_cache.proofs.find.Statement.{statement}
 use Rattle.icon_cache.proofs.find.Tie as tie
 
+-- the call's start, from where the name is allowed, and that place from where the header is kept
+abbrev start : tie.Else1 → tie.Start
+start c = c .before .before .before .before .before
+
+abbrev asks-at : tie.Else2 → tie.Else1
+asks-at c = c .before .before .before
+
 -- the name may be asked for, and the header breaks no rule
-may-be : (c : tie.Else1) → allowed (now (c .before .before .before .before .before .args .name)) ≡ true
+may-be : (c : tie.Else1) → allowed (now (start c .args .name)) ≡ true
 may-be c = sym (c .before .before .asked .ensures .0) ∙ not-false _ (c .if1 .left)
 
-header-kept : (c : tie.Else2) → headerFault (now (c .before .before .before .before .before .before .before .before .args .cache)) .number ≡ 0
+header-kept : (c : tie.Else2) → headerFault (now (start (asks-at c) .args .cache)) .number ≡ 0
 header-kept c = same-number (sym (c .before .before .header .ensures)) ∙ c .if2 .left
 
 -- the bucket searched is the name's
 bucket-is : (c : tie.After-struct-known4)
-    → let may = c .before .before .before .before .before .before in
-    let a = may .before .before .before .before .before .args in
+    → let may = asks-at (c .before .before .before) in
+    let a = start may .args in
     may .before .before .asked .result .hash % c .before .before .read .result .buckets ≡ bucketOf (now (a .cache)) (now (a .name))
 bucket-is c =
-    let may = c .before .before .before .before .before .before in
+    let may = asks-at (c .before .before .before) in
     hash-bucket _ _ (may .before .before .asked .ensures .1 ∙ allowed-hash _ (may-be may)) (same-buckets (c .before .before .read .ensures))
 
 returns : tie.Need-returns
@@ -49,13 +56,13 @@ search-requires : tie.Need-search-requires
 search-requires c κs =
     let read = c .before .before in
     let below = mod-lt _ (valid-header (read .read .ensures) .buckets-some) in
-    (read .read .ensures, (rw (bucket-is c) below, (may-be (read .before .before .before .before), sym (bucket-is c))))
+    (read .read .ensures, (rw (bucket-is c) below, (may-be (asks-at (read .before)), sym (bucket-is c))))
 
 returns-3 : tie.Need-returns-3
 returns-3 c =
     let known = c .before in
     let kept = known .before .before .before in
-    let asks = same-number (query-allowed _ _ (may-be (kept .before .before .before))) ∙ header-kept kept in
+    let asks = same-number (query-allowed _ _ (may-be (asks-at kept))) ∙ header-kept kept in
     c .search .ensures ∙ rw (bucket-is known) (sym (find-searches _ _ asks))
 
 pub find-spec : {M : Type 1} → statement M

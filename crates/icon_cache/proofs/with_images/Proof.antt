@@ -23,7 +23,10 @@ unfolding answerWords
 returns c = (rw (images-are (c .before), list-at (c .before .before)) (sym (found-short _ _ _ _ (rw (← (images-are (c .before))) (c .if1 .taken)))), refl)
 
 write-images-requires : tie.Need-write-images-requires
-write-images-requires c κs = (omega (arith, images-are (c .before .before), list-at (c .before .before .before), c .before .before .before .before .before .before .pre .1), omega (arith, c .before .if1 .left))
+write-images-requires c κs =
+    let counted = c .before .before in
+    let start = counted .before .before .before .before in
+    (omega (arith, images-are counted, list-at (counted .before), start .pre .1), omega (arith, c .before .if1 .left))
 
 returns-2 : tie.Need-returns-2
 unfolding answerWords

@@ -19,13 +19,13 @@ use Rattle.listing.specs.Laws.Opens.{opens}
 
 module _ {s : List ℕ} (acc : Accepted s) where
   as-many : length (allRecords s) ≡ check s .icons
-  as-many = let (f, h) = lengths acc in records-length f (buckets s) h ∙ sym (ap (λ (a : CheckAnswer). a .icons) (check-answers s .accepts acc f h))
+  as-many = let (len, h) = lengths acc in records-length len (buckets s) h ∙ sym (ap (λ (a : CheckAnswer). a .icons) (check-answers s .accepts acc len h))
 
 pub pages : (s : List ℕ) → Pages s
 pages s = record {
-  each-once = λ acc. let (f, h) = lengths acc in each-once acc f h;
+  each-once = λ acc. let (len, h) = lengths acc in each-once acc len h;
   as-many = as-many;
-  lists = λ acc. let (f, h) = lengths acc in lists-all acc f h;
+  lists = λ acc. let (len, h) = lengths acc in lists-all acc len h;
   ends = ends s;
   endless = endless s;
   opens = opens s;

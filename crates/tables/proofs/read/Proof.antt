@@ -20,7 +20,7 @@ read-spec =
     (λ c κs. omega (arith, valid (c .before .before .before)))
     (λ c. search needs)
     (λ c κs. omega (arith, valid (c .before .before .before .before)))
-    (λ c. record {
-      header = c .before .before .before .before .before .pre;
+    (λ c. let start = c .before .before .before .before .before in record {
+      header = start .pre;
       tables = simp (← (c .before .before .before .u32-at .ensures), ← (c .before .before .u32-at2 .ensures), ← (c .before .u32-at3 .ensures), ← (c .u32-at4 .ensures));
     }))

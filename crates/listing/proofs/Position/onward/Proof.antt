@@ -80,7 +80,7 @@ onward-spec =
     (λ c κs. let pre = start (c .before) .pre .0 in (pre, (omega (arith, same-buckets pre), omega (arith, valid-header pre))))
     (λ c. c .match .keys1)
     (λ c. search needs)
-    (λ c. omega (arith, valid-header (start (c .before .before .before .before .before) .pre .0)))
+    (λ c. let l = c .before .before .before .before .before in omega (arith, valid-header (start l .pre .0)))
     returns
     (λ c. c .match .keys2)
     (λ c κs. search needs)
