@@ -11,7 +11,7 @@ use lib.ListN.{length, take, drop, getD, take-append-drop}
 use lib.Seq.{take-length, drop-cons}
 use lib.Dec.{ltb, leb, eqb}
 use Rattle.format.specs.String.{string, extent, isWhole, sameBytes, spellsName, allowed}
-use Rattle.format.specs.Laws.Strings.{string-front, WholeString, whole-extent, whole-string}
+use Rattle.format.specs.Laws.Strings.{string-front, WholeString, judgement, whole, whole-string}
 
 pub same-equal : (a b : List ℕ) → sameBytes a b ≡ true → a ≡ b
 unfolding sameBytes
@@ -88,4 +88,4 @@ module _ (part name : List ℕ) where
       let is : string part ≡ name = ap string parts ∙ string-until name (drop (suc n) part) (allowed-string name may) in
       let long : length (string part) ≡ n = ap length is in
       let whole-one : WholeString 255 part = record { some = omega (arith, allowed-some name may); within = omega (arith, allowed-short name may); ended = omega (arith, b .room) } in
-      rw (whole-extent 255 part whole-one, is) (equal-same name)
+      rw (← (judgement 255 part (whole refl whole-one)), is) (equal-same name)

@@ -17,14 +17,14 @@ use Rattle.format.specs.declared.Extent.{Extent}
 use Rattle.format.specs.declared.Extent.the-variants.{Whole, Empty, Long, Cut}
 
 -- `getD` counts a byte past the end as 0
-string-stops : (t : List ℕ) (i : ℕ) → getD t i 0 ≡ 0 → string (drop i t) ≡ []
+pub string-stops : (t : List ℕ) (i : ℕ) → getD t i 0 ≡ 0 → string (drop i t) ≡ []
 unfolding string
 string-stops [] i e = rw drop-nil
 string-stops (zero ∷ t) zero e = refl
 string-stops (suc b ∷ t) zero e = absurd (omega arith)
 string-stops (b ∷ t) (suc i) e = string-stops t i e
 
-string-goes-on : (t : List ℕ) (i : ℕ) → (getD t i 0 ≡ 0 → ⊥) → string (drop i t) ≡ getD t i 0 ∷ string (drop (i + 1) t)
+pub string-goes-on : (t : List ℕ) (i : ℕ) → (getD t i 0 ≡ 0 → ⊥) → string (drop i t) ≡ getD t i 0 ∷ string (drop (i + 1) t)
 unfolding string
 string-goes-on [] i nz = absurd (nz refl)
 string-goes-on (zero ∷ t) zero nz = absurd (nz refl)
@@ -53,8 +53,11 @@ abbrev pub Passed : List ℕ → ℕ → Type 0
 Passed t i = i + length (string (drop i t)) ≡ length (string t)
 
 module _ (t : List ℕ) (i : ℕ) (passed : Passed t i) where
-  passed-stops : getD t i 0 ≡ 0 → length (string t) ≡ i
+  pub passed-stops : getD t i 0 ≡ 0 → length (string t) ≡ i
   passed-stops e = omega (arith, ap length (string-stops t i e))
+
+  pub passed-ends : length t ≤ i → length (string t) ≡ i
+  passed-ends h = passed-stops (List·getD-eq-default t 0 h)
 
   pub passed-next : (getD t i 0 ≡ 0 → ⊥) → Passed t (i + 1)
   passed-next nz = omega (arith, ap length (string-goes-on t i nz))
@@ -71,7 +74,7 @@ module _ (limit : ℕ) (t : List ℕ) (i : ℕ) (passed : Passed t i) where
 
   pub extent-cut : i ≤ limit → length t ≤ i → Cut ≡ extent limit t
   unfolding extent
-  extent-cut h l = rw (passed-stops t i passed (List·getD-eq-default t 0 l), le-ltb limit i h, le-leb (length t) i l)
+  extent-cut h l = rw (passed-ends t i passed l, le-ltb limit i h, le-leb (length t) i l)
 
 pub string-fits : (t : List ℕ) → length (string t) ≤ length t
 unfolding string
@@ -91,12 +94,6 @@ pub record WholeString (limit : ℕ) (t : List ℕ) : Type 0 where
   pub within : length (string t) ≤ limit
   pub ended : length (string t) < length t
 
-pub whole-extent : (limit : ℕ) (t : List ℕ) → WholeString limit t → extent limit t ≡ Whole (length (string t))
-unfolding extent
-whole-extent limit t h =
-    let has-bytes : length (string t) ≡ 0 → ⊥ = λ z. omega arith in
-    simp (le-ltb _ _ (h .within), lt-leb _ _ (h .ended), ne-eqb _ _ has-bytes)
-
 -- each answer of `extent`, with what it says of the string
 pub data Judged (limit : ℕ) (t : List ℕ) : Extent → Type 0 where
   long : limit < length (string t) → Judged limit t Long
@@ -104,6 +101,17 @@ pub data Judged (limit : ℕ) (t : List ℕ) : Extent → Type 0 where
   empty : 0 < length t → length (string t) ≡ 0 → Judged limit t Empty
   whole : {n : ℕ} → n ≡ length (string t) → WholeString limit t → Judged limit t (Whole n)
 
+-- what holds of the string gives the answer
+pub judgement : (limit : ℕ) (t : List ℕ) {r : Extent} → Judged limit t r → r ≡ extent limit t
+unfolding extent
+judgement limit t (long h) = simp (lt-ltb _ _ h)
+judgement limit t (cut h g) = simp (le-ltb _ _ h, le-leb _ _ g)
+judgement limit t (empty h e) = simp (e, le-ltb limit 0 zero-le, lt-leb _ _ h)
+judgement limit t (whole e h) =
+    let has-bytes : length (string t) ≡ 0 → ⊥ = λ z. omega arith in
+    simp (e, le-ltb _ _ (h .within), lt-leb _ _ (h .ended), ne-eqb _ _ has-bytes)
+
+-- and the answer says what holds of it
 pub judged : (limit : ℕ) (t : List ℕ) → Judged limit t (extent limit t)
 unfolding extent
 judged limit t = go (ltb limit (length (string t))) refl (leb (length t) (length (string t))) refl (eqb (length (string t)) 0) refl
