@@ -15,11 +15,11 @@ abbrev pub unless : Bool → ℕ → ℕ → Fault
 unless true x p = noFault
 unless false x p = fault x p
 
-infixr 20 _orElse_
--- the first of two judgements if it names a broken rule, else the second
-unfoldable pub _orElse_ : Fault → Fault → Fault
-_orElse_ v w = elim (v .number) [ zero ↦ w | suc x ↦ v ]
-
 -- a where the judgement names no broken rule, and b where it names one
 abbrev pub ifKept : {A : Type 0} → Fault → A → A → A
 ifKept {A} v a b = elim (v .number) as (λ n. A) [ zero ↦ a | suc x ↦ b ]
+
+infixr 20 _orElse_
+-- the first of two judgements if it names a broken rule, else the second
+unfoldable pub _orElse_ : Fault → Fault → Fault
+_orElse_ v w = ifKept v w v

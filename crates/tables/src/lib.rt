@@ -4,7 +4,7 @@ ghost use Prim.Native.Nat.{_+_, _^_, _≤_, _<_};
 ghost use lib.ListN.{length};
 ghost use Rattle.format.specs.Part.{listInside};
 ghost use Rattle.format.specs.Header.{validVersion, headerFault, directories, pathsFault};
-ghost use Rattle.tables.specs.Tables.{listCount, tablesIn, TablesOf, bucketFieldOf, pathFieldOf, pathBroken, pathJudged};
+ghost use Rattle.tables.specs.Tables.{listCount, TablesOf, bucketFieldOf, pathFieldOf, pathBroken, pathJudged};
 use bigendian::u16_at;
 use bigendian::u32_at;
 use format::Extent;

@@ -56,7 +56,8 @@ module _ (s name : List ℕ) (k f n o : ℕ) where
       let more : o + (suc (length (rest .records)) + opens (rest .after)) ≡ o + 1 + openedOn rest = omega arith in
       rw (chain-next s k f n e, more) (sym (search-next s name r _ o _ (other-unequal _ _ other)))
 
-field-is : (c : tie.After-bucket-field Inv-loop μ-loop) → let a = c .before .before .before .args in c .bucket-field .result ≡ bucketField (now (a .cache)) (a .bucket)
+field-is : (c : tie.After-bucket-field Inv-loop μ-loop)
+    → let a = c .before .before .before .args in c .bucket-field .result ≡ bucketField (now (a .cache)) (a .bucket)
 field-is c = c .bucket-field .ensures ∙ same-field (c .before .before .before .pre .0) _
 
 loop-holds : tie.Need-loop-holds Inv-loop μ-loop
@@ -114,7 +115,8 @@ returns-2 c =
 returns-3 : tie.Need-returns-3 Inv-loop μ-loop
 returns-3 c =
     let told = c .before .before in
-    rw (one told) (found-here _ _ _ _ _ _ (led told) (sym (bears told) ∙ c .if2 .taken) ∙ more told (omega (arith, one told, valid-header (start (turn told) .pre .0))))
+    let rest = more told (omega (arith, one told, valid-header (start (turn told) .pre .0))) in
+    rw (one told) (found-here _ _ _ _ _ _ (led told) (sym (bears told) ∙ c .if2 .taken) ∙ rest)
 
 loop-again : tie.Need-loop-again Inv-loop μ-loop
 loop-again c =

@@ -1,5 +1,5 @@
--- `chains::seek` meets its contract: each way out is a case of `Leads`, and a record that bears the
--- name keeps rules 8 and 9 (`bears-home`), so `judge` may be told.
+-- `chains::seek` meets its contract: each way out is a law of what a field leads to, as in `follow`,
+-- and a record that bears the name keeps rules 8 and 9 (`bears-home`), so `judge` may be told.
 use Prim.Native.Nat.{ℕ}
 use mathlib.Core.Path.{_≡_, sym, _∙_}
 use mathlib.Core.List.{List}
@@ -10,7 +10,7 @@ use Rattle.format.specs.Chain.{follow}
 use Rattle.format.specs.Laws.Faults.{same-number}
 use Rattle.format.specs.Laws.Records.{bears-home}
 use Rattle.format.specs.Laws.Rules.{record-valid}
-use Rattle.format.specs.Laws.Follow.{link-outside, link-inside, to-end, to-broken, to-record, follow-leads}
+use Rattle.format.specs.Laws.Follow.{follow-end, follow-outside, follow-broken, follow-record}
 use Rattle.format.specs.declared.Next.the-variants.{End, Broken}
 use Rattle.chains.specs.Walk.{seen, Seeks}
 use Rattle.chains.specs.declared.Seen.{Seen}
@@ -27,10 +27,8 @@ module _ (s name : List ℕ) (k f : ℕ) {a : Seen} where
 
 returns-2 : tie.Need-returns-2
 returns-2 c =
-    let out = c .before in
-    let e = out .before .before .u32-at .ensures in
-    at-broken _ _ _ _ (c .nameless2 .ensures)
-    (follow-leads _ _ _ (to-broken (rw e at (out .before .if1 .left)) (link-outside _ _ _ _ (rw e at (out .if2 .taken))) (omega arith)))
+    let real = c .before .before in
+    at-broken _ _ _ _ (c .nameless2 .ensures) (follow-outside _ _ _ (real .before .u32-at .ensures) (real .if1 .left) (c .before .if2 .taken))
 
 judge-requires : tie.Need-judge-requires
 judge-requires c κs =
@@ -40,22 +38,21 @@ judge-requires c κs =
 returns-3 : tie.Need-returns-3
 returns-3 c =
     let judged = c .before .before .before in
-    let e = judged .before .before .before .before .u32-at .ensures in
-    let real = rw e at (judged .before .before .before .if1 .left) in
-    let broken = link-inside _ _ _ _ (rw e at (judged .before .before .if2 .left)) ∙ sym (rw e at (judged .judge .ensures)) in
-    at-broken _ _ _ _ (c .nameless3 .ensures) (follow-leads _ _ _ (to-broken real broken (omega (arith, c .before .if3 .taken))))
+    let inside = judged .before .before in
+    let real = inside .before in
+    at-broken _ _ _ _ (c .nameless3 .ensures)
+    (follow-broken _ _ _ (real .before .u32-at .ensures) (real .if1 .left) (inside .if2 .left) (judged .judge .ensures) (c .before .if3 .taken))
 
 returns-4 : tie.Need-returns-4
 returns-4 c =
     let judged = c .before .before in
-    let e = judged .before .before .before .before .u32-at .ensures in
-    let real = rw e at (judged .before .before .before .if1 .left) in
-    let rules = same-number (sym (rw e at (judged .judge .ensures))) ∙ c .if3 .left in
+    let inside = judged .before .before in
+    let real = inside .before in
     record {
-      next = rw e (sym (follow-leads _ _ _ (to-record real (record { inside = rw e at (judged .before .before .if2 .left); rules = rules }))));
+      next = sym (follow-record _ _ _ (real .before .u32-at .ensures) (real .if1 .left) (inside .if2 .left) (judged .judge .ensures) (c .if3 .left));
       bears = λ r h.
           let named = record-valid _ _ _ (same-number (sym (judged .judge .ensures)) ∙ c .if3 .left) .named in
-          let q : judged .before .before .before .before .u32-at .result ≡ r = cc in
+          let q : real .before .u32-at .result ≡ r = cc in
           judged .before .bears .ensures ∙ rw (named, q);
     }
 
@@ -65,7 +62,7 @@ seek-spec =
     (tie.spec
     (λ c κs. search needs)
     (λ c κs. search needs)
-    (λ c. at-end _ _ _ _ (c .nameless .ensures) (follow-leads _ _ _ (to-end (sym (c .before .before .u32-at .ensures) ∙ c .before .if1 .taken))))
+    (λ c. at-end _ _ _ _ (c .nameless .ensures) (follow-end _ _ _ (c .before .before .u32-at .ensures) (c .before .if1 .taken)))
     (λ c. search needs)
     (λ c. search needs)
     (λ c κs. search needs)

@@ -75,8 +75,8 @@ loop-again c =
     let l = turn (c .before) in
     let most = l .before .before .before .args .most in
     let more : most - l .loop .opened ≡ suc (most - (l .loop .opened + 1)) = omega (arith, one (c .before)) in
-    rw (one (c .before))
-    (omega (arith, follow-keeps _ _ _ (led (c .before)) .1 .inside), omega (arith, one (c .before)), counted _ _ _ (chain-next _ _ _ _ (led (c .before))) ∙ rw more at (l .loop .inv .2))
+    let rest = counted _ _ _ (chain-next _ _ _ _ (led (c .before))) ∙ rw more at (l .loop .inv .2) in
+    rw (one (c .before)) (omega (arith, follow-keeps _ _ _ (led (c .before)) .1 .inside), omega (arith, one (c .before)), rest)
 
 pub walk-spec : {M : Type 1} → statement M
 walk-spec =

@@ -3,7 +3,7 @@ use mathlib.Core.List.{List, [], _∷_, _++_}
 use lib.ListN.{take, replicate}
 use Rattle.format.specs.Answer.{accepted, refused, lookedUp, directoryIs}
 use Rattle.format.specs.Farm.{Example, checks, looksUp, names, farm, patched, oat, lent}
-use Rattle.format.specs.Examples.Caches.{small, none, put, header, bare, hashLast, twoInHeader}
+use Rattle.format.specs.Examples.Caches.{put, header, bare, hashLast, twoInHeader}
 
 unfoldable pub tableExamples : List Example
 tableExamples =

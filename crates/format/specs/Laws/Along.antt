@@ -50,7 +50,7 @@ module _ (s : List ℕ) (k : ℕ) where
   counted n e = ap (λ (c : Chain). length (c .records)) e ∙ links-length s k n
 
   pub opened-on : (n : ℕ) {c : Chain} {l : Next} → c ≡ chained (links s k n) l → openedOn c ≡ n + opens l
-  opened-on n {l = l} e = ap openedOn e ∙ ap (λ m. m + opens l) (links-length s k n)
+  opened-on n e = omega (arith, counted n e, ap opens (after-is e))
 
   -- past n records that keep the rules
   pub chain-along : (n m : ℕ) {N : ℕ} → N ≡ n + m → KeepsBelow s k n → chainOf s k N ≡ before (links s k n) (chain m s k (linkField s k n))

@@ -1,5 +1,5 @@
 -- The check's answer in the words of demand 3, and demand 3.
-use Prim.Native.Nat.{ℕ, _+_, _-_, _≤_, _<_}
+use Prim.Native.Nat.{ℕ, _-_, _≤_, _<_}
 use mathlib.Core.Path.{_≡_, refl, sym, ap, _∙_}
 use mathlib.Core.Logic.{_↔_, Iff·trans}
 use mathlib.Core.List.{List}
@@ -10,10 +10,9 @@ use lib.ListN.{length}
 use Rattle.format.specs.String.{hash, allowed}
 use Rattle.format.specs.Header.{buckets, bucketField, directories}
 use Rattle.format.specs.Record.{nameOf, bucketOf}
-use Rattle.format.specs.Chain.{itself}
 use Rattle.format.specs.Answer.{accepted, refused}
 use Rattle.format.specs.Call.{check, lookup}
-use Rattle.format.specs.Words.{NoneBelow, OnChain, Holds, Breaks, TablesKept, Accepted, Loops, Lengths, sum}
+use Rattle.format.specs.Words.{NoneBelow, OnChain, Holds, Accepted, Loops, Lengths, sum}
 use Rattle.format.specs.Demand.{CheckDemand, LookupKept, Demand3, CheckAnswers}
 use Rattle.format.specs.declared.CheckAnswer.{CheckAnswer}
 use Rattle.format.specs.Laws.Faults.{same-number}
@@ -50,7 +49,8 @@ module _ {s : List ℕ} where
       omega (arith, opened (accepts acc len h), total len h)
   opens (broken {x = x} l held b) =
       let (len, h) = lengths held in
-      omega (arith, opened (answers-broken len l (held .tables-kept) h b), few len h (b .keeps) (λ c. never-breaks c b), at-most-one x, tables-long s (held .tables-kept))
+      let told = opened (answers-broken len l (held .tables-kept) h b) in
+      omega (arith, told, few len h (b .keeps) (λ c. never-breaks c b), at-most-one x, tables-long s (held .tables-kept))
   opens (looped l) = omega (arith, opened (loops l))
 
   loop-of : Verdict s → check s .number ≡ 12 → (k : ℕ) × Loops s k
@@ -58,7 +58,10 @@ module _ {s : List ℕ} where
       let told = number (check-refuses s e (λ z. omega arith)) in
       absurd (never 12 (tables-number s) refl (same-number e ∙ sym told ∙ q))
   loop-of (all-hold acc) q = let (len, h) = lengths acc in absurd (omega (arith, number (accepts acc len h)))
-  loop-of (broken l held b) q = let (len, h) = lengths held in absurd (never 12 (broken-number b) refl (sym (number (answers-broken len l (held .tables-kept) h b)) ∙ q))
+  loop-of (broken l held b) q =
+      let (len, h) = lengths held in
+      let told = number (answers-broken len l (held .tables-kept) h b) in
+      absurd (never 12 (broken-number b) refl (sym told ∙ q))
   loop-of (looped {k = k} l) q = (k, l)
 
   accepted-of : Verdict s → check s .number ≡ 0 → Accepted s

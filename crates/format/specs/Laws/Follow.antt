@@ -1,7 +1,7 @@
 -- What a field leads to on a chain: the end, a broken rule, or a record that keeps the rules; and
 -- how a chain goes on from there.
 use Prim.Native.Nat.{ℕ, zero, suc, _+_, _≤_, _<_, zero-le, suc-le-suc}
-use mathlib.Core.Path.{_≡_, refl, _∙_}
+use mathlib.Core.Path.{_≡_, refl, sym, _∙_}
 use mathlib.Core.List.{List, [], _∷_}
 use mathlib.Core.Bool.{Bool, true, false}
 use native.Mathlib.Decide.{ℕ-discrete}
@@ -17,6 +17,7 @@ use Rattle.format.specs.Fault.{fault}
 use Rattle.format.specs.Record.{recordFault}
 use Rattle.format.specs.Chain.{linkFault, judged, follow, chained, chain, itself, opens}
 use Rattle.format.specs.Words.{Inside, Keeps}
+use Rattle.format.specs.declared.Fault.{Fault}
 use Rattle.format.specs.declared.Next.{Next}
 use Rattle.format.specs.declared.Next.the-variants.{End, Broken, Record}
 use Rattle.format.specs.Laws.Faults.{same-number, orElse-none, unless-none, broken-speaks, kept-passes, kept-takes, broken-takes}
@@ -115,6 +116,26 @@ module _ (s : List ℕ) (k f : ℕ) where
       go (to-end q) e = absurd (let z : _≡_ {A = ℕ} 0 1 = cc in omega arith)
       go (to-broken real q some) e = absurd (let z : _≡_ {A = ℕ} 0 1 = cc in omega arith)
       go (to-record real h) e = let q : be 4 s f ≡ r = cc in (q, rw q at h)
+
+-- where a field leads, by the number n that stands in it
+module _ (s : List ℕ) (k f : ℕ) {n : ℕ} (e : n ≡ be 4 s f) where
+  pub follow-end : n ≡ endValue → follow s k f ≡ End
+  follow-end q = follow-leads s k f (to-end (sym e ∙ q))
+
+  module _ (real : n ≡ endValue → ⊥) where
+    pub follow-outside : length s < n + recordSize → follow s k f ≡ Broken 7 f
+    follow-outside h = follow-leads s k f (to-broken (rw e at real) (link-outside s k f _ (rw e at h)) (omega arith))
+
+    module _ (inside : Inside s n) {v : Fault} (j : v ≡ recordFault s k n) where
+      pub follow-broken : (v .number ≡ 0 → ⊥) → follow s k f ≡ Broken (v .number) (v .place)
+      follow-broken some =
+          let broken = link-inside s k f _ (rw e at inside) ∙ sym (rw e at j) in
+          follow-leads s k f (to-broken (rw e at real) broken (omega (arith, some)))
+
+      pub follow-record : v .number ≡ 0 → follow s k f ≡ Record n
+      follow-record none =
+          let keeps : Keeps s k n = record { inside = inside; rules = same-number (sym j) ∙ none } in
+          rw e (follow-leads s k f (to-record (rw e at real) (rw e at keeps)))
 
 -- no more records than may be passed
 pub chain-short : (n : ℕ) (s : List ℕ) (k f : ℕ) → length (chain n s k f .records) ≤ n

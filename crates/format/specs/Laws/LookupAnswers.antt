@@ -111,7 +111,8 @@ module _ (s name : List ℕ) (asks : queryFault s name .number ≡ 0) where
           rw (says-absent m c none) (record { opens = keeps-le h (c .keeps); absent = (λ e i d. none i (omega (arith, keeps-le c (h .keeps))), λ x. refl) })
       in-chain (met {n = m} keeps none here same) =
           let d : m < n = before-end h (λ i g. keeps i g .0) (here .0) in
-          rw (says-found m keeps none here same) (found-either s room _ _ (InChain s name bucket n) (there d same _ refl (λ e. omega arith)) (there d same _ refl (λ e. omega arith)))
+          rw (says-found m keeps none here same)
+          (found-either s room _ _ (InChain s name bucket n) (there d same _ refl (λ e. omega arith)) (there d same _ refl (λ e. omega arith)))
       in-chain (broken b none) = absurd (unbroken h b)
       in-chain (lasts keeps none) = absurd (omega (arith, keeps-le h keeps, within s name bucket (h .keeps) (once h)))
 

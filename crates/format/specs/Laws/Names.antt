@@ -87,5 +87,9 @@ module _ (part name : List ℕ) where
       sym (take-append-drop n part) ∙ rw (drop-cons part n 0 (b .room), b .bytes, b .ended) in
       let is : string part ≡ name = ap string parts ∙ string-until name (drop (suc n) part) (allowed-string name may) in
       let long : length (string part) ≡ n = ap length is in
-      let whole-one : WholeString 255 part = record { some = omega (arith, allowed-some name may); within = omega (arith, allowed-short name may); ended = omega (arith, b .room) } in
+      let whole-one : WholeString 255 part = record {
+        some = omega (arith, allowed-some name may);
+        within = omega (arith, allowed-short name may);
+        ended = omega (arith, b .room);
+      } in
       rw (← (judgement 255 part (whole refl whole-one)), is) (equal-same name)

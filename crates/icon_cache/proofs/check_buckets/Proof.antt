@@ -1,13 +1,12 @@
 -- `icon_cache::check_buckets` meets its contract. The loop's invariant: the rest equals the whole,
 -- the check of the buckets from the present one on answers as the check of all buckets does. What
 -- comes after the records of a chain decides (`bucket-ends`, `bucket-breaks`, `bucket-goes-on`).
-use Prim.Native.Nat.{suc, _+_, _-_, _≤_, _<_}
+use Prim.Native.Nat.{suc, _+_, _-_, _≤_}
 use mathlib.Core.Path.{_≡_, refl, sym, ap, _∙_}
 use native.Mathlib.Nat.{sub-zero}
 use native.Mathlib.Numerals.{add-one}
 use native.Mathlib.Omega.{arith}
 use borrow.Author.Needs.{needs}
-use lib.ListN.{length}
 use denote.Ref.{now}
 use Rattle.format.specs.Header.{buckets, bucketField}
 use Rattle.format.specs.Chain.{chainOf, mostRecords, opens, openedOn}
@@ -35,7 +34,8 @@ start l = l .before .before
 turn : (c : tie.In-loop Inv-loop μ-loop)
     → let l = c .before in
     let a = start l .args in
-    checkBuckets (suc (a .t .buckets - (l .loop .bucket + 1))) (now (a .cache)) (l .loop .bucket) (l .loop .opened) ≡ checkBuckets (buckets (now (a .cache))) (now (a .cache)) 0 0
+    checkBuckets (suc (a .t .buckets - (l .loop .bucket + 1))) (now (a .cache)) (l .loop .bucket) (l .loop .opened)
+    ≡ checkBuckets (buckets (now (a .cache))) (now (a .cache)) 0 0
 turn c =
     let l = c .before in
     let n = start l .args .t .buckets in

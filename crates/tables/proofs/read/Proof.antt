@@ -22,5 +22,5 @@ read-spec =
     (λ c κs. omega (arith, valid (c .before .before .before .before)))
     (λ c. let start = c .before .before .before .before .before in record {
       header = start .pre;
-      tables = simp (← (c .before .before .before .u32-at .ensures), ← (c .before .before .u32-at2 .ensures), ← (c .before .u32-at3 .ensures), ← (c .u32-at4 .ensures));
+      tables = let two = c .before .before in simp (← (two .before .u32-at .ensures), ← (two .u32-at2 .ensures), ← (c .before .u32-at3 .ensures), ← (c .u32-at4 .ensures));
     }))
