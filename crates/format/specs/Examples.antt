@@ -9,11 +9,11 @@ use lib.ListN.{length}
 use lib.Dec.{T}
 use Rattle.format.specs.Layout.{majorField}
 use Rattle.format.specs.Number.{be}
-use Rattle.format.specs.Fault.{_orElse_}
+use Rattle.format.specs.Fault.{_orElse_, firstFault}
 use Rattle.format.specs.String.{string, extent, isWhole, sameBytes, signed, hashFrom, hashNumbers, hash, allowed}
 use Rattle.format.specs.Segments.{segments, firstSegment, laterSegments, validSegment, allValid}
-use Rattle.format.specs.Header.{headerFault, pathFault, pathsFault, tablesFault}
-use Rattle.format.specs.Record.{imagesFault, nameFault, listFault, recordFault, imageWords}
+use Rattle.format.specs.Header.{headerFault, pathFault, tablesFault}
+use Rattle.format.specs.Record.{nameFault, listFault, recordFault, imageWords}
 use Rattle.format.specs.Chain.{linkFault, follow, chain}
 use Rattle.format.specs.Answer.{refused}
 use Rattle.format.specs.Call.{check, checkBuckets, firstNamed, searchBucket, queryFault, find, withImages, lookup, foundAnswer, answerWords, directoryFault, directory, directoryPath}
@@ -26,7 +26,7 @@ pub mod Tables
 pub mod Records
 
 examples-hold : T (all tableExamples && all headerExamples && all recordExamples && all loopExamples && all pathExamples)
-unfolding all holds tableExamples headerExamples recordExamples loopExamples pathExamples small none put header start bare hashLast twoInHeader named pathed undirected recordLast lent looped patched farm cow oat pig sameCheck sameLookup sameDirectory check checkBuckets firstNamed searchBucket queryFault find withImages lookup foundAnswer answerWords directoryFault directory directoryPath linkFault follow chain recordFault nameFault listFault imagesFault imageWords headerFault segments firstSegment laterSegments validSegment allValid pathFault pathsFault tablesFault _orElse_ extent string isWhole sameBytes signed hashFrom hashNumbers hash allowed be
+unfolding all holds tableExamples headerExamples recordExamples loopExamples pathExamples small none put header start bare hashLast twoInHeader named pathed undirected recordLast lent looped patched farm cow oat pig sameCheck sameLookup sameDirectory check checkBuckets firstNamed searchBucket queryFault find withImages lookup foundAnswer answerWords directoryFault directory directoryPath linkFault follow chain recordFault nameFault listFault imageWords headerFault segments firstSegment laterSegments validSegment allValid pathFault tablesFault _orElse_ firstFault extent string isWhole sameBytes signed hashFrom hashNumbers hash allowed be
 examples-hold = tt
 
 -- every buffer of 16,777,217 bytes is refused with 2, and of 16,777,216 with 3 where MAJOR is 2

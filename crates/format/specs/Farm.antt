@@ -5,11 +5,11 @@ use mathlib.Core.Bool.{Bool, true, _&&_}
 use lib.ListN.{length, take, drop, replicate}
 use lib.Dec.{T, eqb}
 use Rattle.format.specs.Number.{be}
-use Rattle.format.specs.Fault.{_orElse_}
+use Rattle.format.specs.Fault.{_orElse_, firstFault}
 use Rattle.format.specs.String.{string, extent, isWhole, sameBytes, signed, hashFrom, hashNumbers, hash, allowed}
 use Rattle.format.specs.Segments.{segments, firstSegment, laterSegments, validSegment, allValid}
-use Rattle.format.specs.Header.{headerFault, pathFault, pathsFault, tablesFault}
-use Rattle.format.specs.Record.{imagesFault, nameFault, listFault, recordFault, imageWords}
+use Rattle.format.specs.Header.{headerFault, pathFault, tablesFault}
+use Rattle.format.specs.Record.{nameFault, listFault, recordFault, imageWords}
 use Rattle.format.specs.Chain.{linkFault, follow, chain}
 use Rattle.format.specs.Answer.{accepted, refused, lookedUp, directoryIs}
 use Rattle.format.specs.Call.{check, checkBuckets, firstNamed, searchBucket, queryFault, find, withImages, lookup, foundAnswer, answerWords, lookupWords, directoryFault, directory, directoryPath}
@@ -104,5 +104,5 @@ examples =
     []
 
 examples-hold : T (all examples)
-unfolding all holds examples lent looped patched farm cow oat pig ewe sameCheck sameLookup sameDirectory check checkBuckets firstNamed searchBucket queryFault find withImages lookup foundAnswer answerWords directoryFault directory directoryPath linkFault follow chain recordFault nameFault listFault imagesFault imageWords headerFault segments firstSegment laterSegments validSegment allValid pathFault pathsFault tablesFault _orElse_ extent string isWhole sameBytes signed hashFrom hashNumbers hash allowed be
+unfolding all holds examples lent looped patched farm cow oat pig ewe sameCheck sameLookup sameDirectory check checkBuckets firstNamed searchBucket queryFault find withImages lookup foundAnswer answerWords directoryFault directory directoryPath linkFault follow chain recordFault nameFault listFault imageWords headerFault segments firstSegment laterSegments validSegment allValid pathFault tablesFault _orElse_ firstFault extent string isWhole sameBytes signed hashFrom hashNumbers hash allowed be
 examples-hold = tt

@@ -1,6 +1,6 @@
 -- Which rule is broken first, and where: document 01, 'Answer numbers', in the order of checks. A
 -- judgement with number 0 says that none is.
-use Prim.Native.Nat.{ℕ, zero, suc}
+use Prim.Native.Nat.{ℕ, zero, suc, _+_}
 use mathlib.Core.Bool.{Bool, true, false}
 use Rattle.format.specs.declared.Fault.{Fault}
 
@@ -23,3 +23,8 @@ infixr 20 _orElse_
 -- the first of two judgements if it names a broken rule, else the second
 unfoldable pub _orElse_ : Fault → Fault → Fault
 _orElse_ v w = ifKept v w v
+
+-- the first broken rule among n things, judged one after the other from p on, d apart
+unfoldable pub firstFault : (ℕ → Fault) → ℕ → ℕ → ℕ → Fault
+firstFault judge d zero p = noFault
+firstFault judge d (suc n) p = judge p orElse firstFault judge d n (p + d)

@@ -1,6 +1,6 @@
 -- The header, the directory list and the hash: document 01's tables, and request 4. Rules 1 to 6,
 -- and 16.
-use Prim.Native.Nat.{ℕ, zero, suc}
+use Prim.Native.Nat.{ℕ}
 use mathlib.Core.List.{List}
 use mathlib.Core.Bool.{Bool, not, _&&_}
 use lib.ListN.{length, getD, drop}
@@ -8,7 +8,7 @@ use lib.Dec.{ltb, leb, eqb}
 use Rattle.format.specs.Layout.{headerSize, majorField, minorField, hashField, directoriesField, fieldSize, entryField, mostBytes, mostDirectories, longestPath}
 use Rattle.format.specs.Number.{be}
 use Rattle.format.specs.Part.{inside, listInside}
-use Rattle.format.specs.Fault.{noFault, unless, _orElse_}
+use Rattle.format.specs.Fault.{unless, _orElse_, firstFault}
 use Rattle.format.specs.String.{string, extent, isWhole}
 use Rattle.format.specs.Segments.{slash, validSegments}
 use Rattle.format.specs.declared.Fault.{Fault}
@@ -72,9 +72,8 @@ pathFault s i =
     orElse unless (validSegments (pathOf s i)) 16 (pathField s i)
 
 -- rules 6 and 16 on n paths from directory i on
-unfoldable pub pathsFault : ℕ → List ℕ → ℕ → Fault
-pathsFault zero s i = noFault
-pathsFault (suc n) s i = pathFault s i orElse pathsFault n s (suc i)
+abbrev pub pathsFault : ℕ → List ℕ → ℕ → Fault
+pathsFault n s i = firstFault (pathFault s) 1 n i
 
 -- rules 1 to 6 and 16
 unfoldable pub tablesFault : List ℕ → Fault

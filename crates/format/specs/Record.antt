@@ -8,7 +8,7 @@ use Rattle.format.specs.Choice.{if_then_else_}
 use Rattle.format.specs.Layout.{entriesAt, nameField, imagesField, imageSize, indexField, flagsField, dataField, mostImages, longestName, mostFlags, noDirectory}
 use Rattle.format.specs.Number.{be}
 use Rattle.format.specs.Part.{listInside}
-use Rattle.format.specs.Fault.{noFault, unless, _orElse_}
+use Rattle.format.specs.Fault.{unless, _orElse_, firstFault}
 use Rattle.format.specs.String.{string, extent, isWhole, spellsName, hash}
 use Rattle.format.specs.Header.{buckets, directories}
 use Rattle.format.specs.declared.Fault.{Fault}
@@ -50,10 +50,12 @@ validImageList s p = listInside s p imageSize && leb (be 4 s p) mostImages
 abbrev pub validImage : List ℕ → ℕ → Bool
 validImage s p = validIndex (directories s) (be 2 s (indexField p)) && leb (be 2 s (flagsField p)) mostFlags
 
--- rule 11 on m images from p on
-unfoldable pub imagesFault : ℕ → List ℕ → ℕ → Fault
-imagesFault zero s p = noFault
-imagesFault (suc m) s p = unless (validImage s p) 11 p orElse imagesFault m s (p + imageSize)
+-- rule 11 on the image at p, and on m images from p on
+abbrev pub imageFault : List ℕ → ℕ → Fault
+imageFault s p = unless (validImage s p) 11 p
+
+abbrev pub imagesFault : ℕ → List ℕ → ℕ → Fault
+imagesFault m s p = firstFault (imageFault s) imageSize m p
 
 -- of the record r on bucket k's chain: rules 8 and 9 on its name, 10 and 11 on its images, and all
 unfoldable pub nameFault : List ℕ → ℕ → ℕ → Fault

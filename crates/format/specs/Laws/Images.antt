@@ -2,28 +2,12 @@
 use Prim.Native.Nat.{ℕ, _+_, _≤_}
 use mathlib.Core.Path.{_≡_}
 use mathlib.Core.List.{List, [], _∷_, append-assoc}
-use mathlib.Core.Bool.{true, false}
 use native.Mathlib.Numerals.{add-one}
 use native.Mathlib.Omega.{arith}
 use lib.ListN.{length, take, drop, set}
 use lib.Seq.{sets-eq, drop-at, length-take-le}
 use Rattle.format.specs.Number.{be}
-use Rattle.format.specs.Fault.{fault, noFault}
-use Rattle.format.specs.Record.{validImage, imagesFault, firstWord, imageWords}
-use Rattle.format.specs.Laws.Faults.{broken-speaks, kept-passes}
-
-module _ (s : List ℕ) (p n : ℕ) where
-  pub images-end : n ≡ 0 → imagesFault n s p ≡ noFault
-  unfolding imagesFault
-  images-end e = rw e
-
-  pub images-stop : (m : ℕ) → n ≡ m + 1 → validImage s p ≡ false → imagesFault n s p ≡ fault 11 p
-  unfolding imagesFault
-  images-stop m e broken = rw (e, add-one m) (broken-speaks (validImage s p) _ _ _ broken)
-
-  pub images-go-on : (m : ℕ) → n ≡ m + 1 → validImage s p ≡ true → imagesFault n s p ≡ imagesFault m s (p + 8)
-  unfolding imagesFault
-  images-go-on m e kept = rw (e, add-one m) (kept-passes (validImage s p) _ _ _ kept)
+use Rattle.format.specs.Record.{firstWord, imageWords}
 
 -- two words stored side by side, and what stood after them
 pub two-stored : (ws : List ℕ) (i a b : ℕ) → i + 2 ≤ length ws → drop i (set (set ws i a) (i + 1) b) ≡ a ∷ b ∷ drop (i + 2) ws

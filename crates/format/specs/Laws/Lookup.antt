@@ -4,6 +4,7 @@ use Prim.Native.Nat.{ℕ, suc, _-_, _*_, _≤_, _<_}
 use mathlib.Core.Path.{_≡_, refl}
 use mathlib.Core.List.{List, _∷_}
 use mathlib.Core.Bool.{Bool, true, false}
+use native.Mathlib.Decide.{ℕ-discrete}
 use native.Mathlib.Omega.{arith}
 use borrow.Author.Tests.{le-leb, lt-leb}
 use lib.ListN.{length}
@@ -33,9 +34,12 @@ module _ (s name : List ℕ) where
   query-allowed e = kept-passes _ _ _ _ e
 
   -- a name that is looked for stands in a buffer with a header
-  pub query-long : queryFault s name .number ≡ 0 → 12 ≤ length s
+  pub query-header : queryFault s name .number ≡ 0 → headerFault s .number ≡ 0
   unfolding queryFault
-  query-long e = header-valid s (orElse-none _ _ e .1) .header-inside
+  query-header e = orElse-none _ _ e .1
+
+  pub query-long : queryFault s name .number ≡ 0 → 12 ≤ length s
+  query-long e = header-valid s (query-header e) .header-inside
 
   pub query-number : OneOf (13 ∷ headerNumbers) (queryFault s name .number)
   unfolding queryFault
@@ -48,6 +52,13 @@ module _ (s name : List ℕ) where
   pub find-searches : queryFault s name .number ≡ 0 → find s name ≡ searchBucket s name (bucketOf s name)
   unfolding find
   find-searches a = kept-takes (queryFault s name) _ _ a
+
+  -- a name that is found was looked for
+  pub found-asked : {a : Found} → find s name ≡ a → a .number ≡ 0 → queryFault s name .number ≡ 0
+  found-asked e found = elim (ℕ-discrete (queryFault s name .number) 0) [
+    | yes asks ↦ asks
+    | no refused ↦ absurd (refused (rw (← e, find-refuses refl refused) at found))
+  ]
 
 -- an answer with another number than 0 leaves the words as they were
 pub answer-keeps : (s words : List ℕ) (a : LookupAnswer) → (a .number ≡ 0 → ⊥) → answerWords s words a ≡ words

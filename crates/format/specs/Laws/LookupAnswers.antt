@@ -19,7 +19,7 @@ use Rattle.format.specs.Laws.Numbers.{OneOf, headerNumbers, linkNumbers,
 use Rattle.format.specs.Laws.Links.{earlier, once, round, broken-number, keeps-le, before-end, unbroken}
 use Rattle.format.specs.Laws.Apart.{apart-none, repeats}
 use Rattle.format.specs.Laws.Search.{search-absent, search-finds, search-breaks, search-lasts, within, Sought, absent, met, broken, lasts, sought}
-use Rattle.format.specs.Laws.Lookup.{query-long, query-number, find-refuses, find-searches, found-either, lookup-found, lookup-unfound}
+use Rattle.format.specs.Laws.Lookup.{query-long, query-number, find-refuses, find-searches, found-asked, found-either, lookup-found, lookup-unfound}
 use Rattle.format.specs.Laws.Verdict.{turns, turns-keep}
 
 -- the answer to a lookup in a chain of n records that holds
@@ -117,12 +117,8 @@ module _ (s name : List ℕ) (asks : queryFault s name .number ≡ 0) where
       in-chain (lasts keeps none) = absurd (omega (arith, keeps-le h keeps, within s name bucket (h .keeps) (once h)))
 
 -- the record that is found keeps the rules
-pub found-keeps : (s name : List ℕ) → find s name .number ≡ 0 → Keeps s (bucketOf s name) (find s name .place)
-found-keeps s name e = go (queryFault s name .number) refl
-  where
-    go : (n : ℕ) → queryFault s name .number ≡ n → Keeps s (bucketOf s name) (find s name .place)
-    go zero asks = found-rules s name asks e
-    go (suc n) q = absurd (omega (arith, number (find-refuses s name refl (λ z. omega arith))))
+pub found-keeps : (s name : List ℕ) {a : Found} → find s name ≡ a → a .number ≡ 0 → Keeps s (bucketOf s name) (a .place)
+found-keeps s name e found = rw (← e) (found-rules s name (found-asked s name e found) (number e ∙ found))
 
 pub lookup-answers : (s name : List ℕ) (room : ℕ) → LookupAnswers s name room
 lookup-answers s name room = record {

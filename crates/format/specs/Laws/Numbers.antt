@@ -1,13 +1,13 @@
 -- Which numbers a judgement can give: 0, or one of a list; the test computes, so that a number that
 -- is not among them is refuted by it.
-use Prim.Native.Nat.{ℕ}
+use Prim.Native.Nat.{ℕ, zero, suc, _+_}
 use mathlib.Core.Path.{_≡_, refl, sym, _∙_}
 use mathlib.Core.List.{List, [], _∷_}
 use mathlib.Core.Bool.{Bool, true, false, _&&_, _||_, and-eq-true-iff, false≢true}
 use native.Mathlib.Decide.{ℕ-discrete}
 use borrow.Author.Tests.{ne-eqb}
 use lib.Dec.{eqb}
-use Rattle.format.specs.Fault.{unless, _orElse_}
+use Rattle.format.specs.Fault.{unless, _orElse_, firstFault}
 use Rattle.format.specs.declared.Fault.{Fault}
 use Rattle.format.specs.Laws.Faults.{orElse-first, orElse-next}
 
@@ -42,6 +42,11 @@ module _ {ns : List ℕ} where
 
   pub orElse-one : (x y : Fault) → OneOf ns (x .number) → OneOf ns (y .number) → OneOf ns ((x orElse y) .number)
   orElse-one x y h g = elim (ℕ-discrete (x .number) 0) [ yes kept ↦ rw (orElse-next x y kept) g | no broken ↦ rw (orElse-first x y broken) h ]
+
+  pub first-one : (judge : ℕ → Fault) (d n p : ℕ) → ((q : ℕ) → OneOf ns (judge q .number)) → OneOf ns (firstFault judge d n p .number)
+  unfolding firstFault
+  first-one judge d zero p each = record { one = refl }
+  first-one judge d (suc n) p each = orElse-one _ _ (each p) (first-one judge d n (p + d) each)
 
 -- more numbers
 abbrev pub includes : List ℕ → List ℕ → Bool

@@ -29,8 +29,8 @@ returns c =
 with-images-requires : tie.Need-with-images-requires
 with-images-requires c κs =
     let found = c .before .before .before .find in
-    let keeps = found-keeps _ _ (rw (found .ensures) at (c .before .if1 .left)) in
-    rw (found .ensures) (keeps .inside, keeps-listed keeps)
+    let keeps = found-keeps _ _ (sym (found .ensures)) (c .before .if1 .left) in
+    (keeps .inside, keeps-listed keeps)
 
 returns-2 : tie.Need-returns-2
 returns-2 c =

@@ -1,6 +1,5 @@
 -- `records::images` meets its contract. The loop's invariant: the rest equals the whole, what is
--- judged of the images left is what is judged of all of them. Rests on the laws `images-end`,
--- `images-stop` and `images-go-on`.
+-- judged of the images left is what is judged of all of them. Rests on the laws of `firstFault`.
 use Prim.Native.Nat.{_+_, _-_, _*_, _≤_}
 use mathlib.Core.Path.{_≡_, refl, sym, ap, _∙_}
 use native.Mathlib.Omega.{arith}
@@ -8,7 +7,7 @@ use borrow.Author.Needs.{needs}
 use borrow.Author.Tests.{not-true, not-false}
 use lib.ListN.{length}
 use Rattle.format.specs.Record.{imagesFault}
-use Rattle.format.specs.Laws.Images.{images-end, images-stop, images-go-on}
+use Rattle.format.specs.Laws.Faults.{unless-broken, first-end, first-stop, first-go-on}
 use Rattle.records.specs.ValidWords.{validWords}
 use Rattle.records.proofs.images.Statement.{statement}
 use Rattle.records.proofs.images.Tie as tie
@@ -28,12 +27,14 @@ valid-image-requires c κs =
 returns : tie.Need-returns Inv-loop μ-loop
 returns c =
     let l = c .before .before .before in
-    sym (images-stop _ _ _ (l .loop .left - 1) (omega arith) (sym (c .before .valid-image .ensures) ∙ not-true _ (c .if1 .taken))) ∙ l .loop .inv .1
+    let broken = unless-broken _ 11 _ (sym (c .before .valid-image .ensures) ∙ not-true _ (c .if1 .taken)) in
+    sym (first-stop _ _ _ _ (omega arith) (rw broken (λ z. omega arith)) ∙ broken) ∙ l .loop .inv .1
 
 loop-again : tie.Need-loop-again Inv-loop μ-loop
 loop-again c =
     let l = c .before .before .before in
-    (omega arith, sym (images-go-on _ _ _ (l .loop .left - 1) (omega arith) (sym (c .before .valid-image .ensures) ∙ not-false _ (c .if1 .left))) ∙ l .loop .inv .1)
+    let kept = sym (c .before .valid-image .ensures) ∙ not-false _ (c .if1 .left) in
+    (omega arith, sym (first-go-on _ _ _ _ (l .loop .left - 1) (omega arith) (rw kept)) ∙ l .loop .inv .1)
 
 pub images-spec : {M : Type 1} → statement M
 images-spec =
@@ -49,4 +50,4 @@ images-spec =
     (λ c. omega arith)
     (λ c. omega arith)
     loop-again
-    (λ c. sym (images-end _ _ _ (omega arith)) ∙ c .before .loop .inv .1))
+    (λ c. sym (first-end _ _ _ _ (omega arith)) ∙ c .before .loop .inv .1))

@@ -1,5 +1,5 @@
 -- `tables::paths` meets its contract. The loop's invariant: the judgement of the paths that are
--- left is that of all. Each turn is one of the laws `paths-stop` and `paths-go-on`.
+-- left is that of all. Each turn is one of the laws `first-stop` and `first-go-on`.
 use borrow.Author.Needs.{needs}
 use Prim.Native.Nat.{_-_, _≤_}
 use mathlib.Core.Path.{_≡_, _∙_, sym, ap}
@@ -7,7 +7,7 @@ use native.Mathlib.Nat.{sub-zero}
 use native.Mathlib.Omega.{arith}
 use denote.Ref.{now}
 use Rattle.format.specs.Header.{directories, pathFault, pathsFault}
-use Rattle.format.specs.Laws.Paths.{paths-end, paths-stop, paths-go-on}
+use Rattle.format.specs.Laws.Faults.{first-end, first-stop, first-go-on}
 use Rattle.tables.specs.Laws.{same-directories}
 use Rattle.tables.specs.declared.JudgedPath.{JudgedPath}
 use Rattle.tables.proofs.paths.Statement.{statement}
@@ -36,7 +36,7 @@ returns c =
     let loop = path .before .before in
     let judged = fault-is path in
     judged
-    ∙ sym (paths-stop _ _ _ (omega (arith, same-directories (loop .before .before .pre), path .before .loop-test)) (rw judged at (c .if1 .taken)))
+    ∙ sym (first-stop _ _ _ _ (omega (arith, same-directories (loop .before .before .pre), path .before .loop-test)) (rw judged at (c .if1 .taken)))
     ∙ loop .loop .inv .1
 
 loop-again : tie.Need-loop-again Inv-loop μ-loop
@@ -45,10 +45,10 @@ loop-again c =
     let loop = path .before .before in
     let count = same-directories (loop .before .before .pre) in
     let kept = rw (fault-is path) at (c .if1 .left) in
-    (omega (arith, path .before .loop-test), sym (paths-go-on _ _ _ _ (omega (arith, path .before .loop-test)) kept) ∙ loop .loop .inv .1)
+    (omega (arith, path .before .loop-test), sym (first-go-on _ _ _ _ _ (omega (arith, path .before .loop-test)) kept) ∙ loop .loop .inv .1)
 
 returns-2 : tie.Need-returns-2 Inv-loop μ-loop
-returns-2 c = sym (paths-end _ _ _ (omega (arith, same-directories (c .before .before .before .pre)))) ∙ c .before .loop .inv .1
+returns-2 c = sym (first-end _ _ _ _ (omega (arith, same-directories (c .before .before .before .pre)))) ∙ c .before .loop .inv .1
 
 pub paths-spec : {M : Type 1} → statement M
 paths-spec =
