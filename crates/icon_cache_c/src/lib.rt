@@ -6,6 +6,7 @@ ghost use mathlib.Core.Path.{_≡_};
 ghost use lib.ListN.{length};
 ghost use Rattle.format.specs.Answer.{checked, lookedUp, directoryIs, partIs};
 ghost use Rattle.format.specs.Call.{check, lookup, lookupWords, directory, directoryPart};
+ghost use Rattle.pick.specs.Pick.{pickIs, pick};
 ghost use Rattle.listing.specs.Listing.{position, step, stepIs};
 ghost use Rattle.flags.specs.Flags.{flagsIs, flagsIn, flagsOut};
 use listing::Position;
@@ -44,6 +45,22 @@ pub extern "C" fn icon_cache_lookup(
     *place = answer.place;
     *images = answer.images;
     *opened = answer.opened;
+    answer.number
+}
+
+#[no_mangle]
+pub extern "C" fn icon_cache_pick(
+    cache: &[u8],
+    name: &[u8],
+    size: u32,
+    scale: u32,
+    directories: &[u32],
+    place: &mut usize,
+) -> u32
+    ensures { λ r. ⌜ pickIs r (now (place .exit)) ≡ pick (now (cache .entry)) (now (name .entry)) size scale (now (directories .entry)) ⌝ }
+{
+    let answer = pick::pick(cache, name, size, scale, directories);
+    *place = answer.place;
     answer.number
 }
 
