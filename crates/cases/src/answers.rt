@@ -18,7 +18,7 @@ pub fn end() {
     print(b"\n");
 }
 
-fn begin(case: &[u8], call: &[u8], number: u32, place: usize) {
+pub fn begin(case: &[u8], call: &[u8], number: u32, place: usize) {
     print(case);
     count(call, number as usize);
     count(b" at ", place);

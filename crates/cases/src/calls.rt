@@ -2,18 +2,20 @@
 use crate::answers;
 use crate::icons;
 use crate::images;
+use crate::picks;
 use crate::script;
 use crate::script::Words;
 use listing::Position;
 use std::num::wrapping_add_usize;
 
-// The lookups. A query's name is a part of the buffer.
+// The lookups and the picks. A query's name is a part of the buffer.
 fn look_up(case: &[u8], line: &[u8], w: Words, buffer: &[u8], cache: &[u8]) {
     let name = script::rest(line, w.second);
     let to = wrapping_add_usize(w.b, w.c);
     let command = w.command;
     match command {
         b'l' => answers::lookup(case, cache, name, w.a),
+        b'p' => picks::pick(case, cache, script::rest(line, w.fourth), w, buffer),
         b'w' => images::lookup(case, cache, name, w.a),
         b'q' => answers::lookup(case, cache, script::part(buffer, w.b, to), w.a),
         _ => {}

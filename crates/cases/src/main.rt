@@ -6,6 +6,7 @@ mod build;
 mod calls;
 mod icons;
 mod images;
+mod picks;
 mod script;
 
 use build::Lengths;

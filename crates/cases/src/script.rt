@@ -71,8 +71,8 @@ pub fn number(line: &[u8], at: usize) -> usize {
     n
 }
 
-// A line by its words: the command's first letter, up to three numbers, and where the second and
-// the third of them stand, for the text that may stand there instead.
+// A line by its words: the command's first letter, up to three numbers, and where the second, the
+// third and what follows them stand, for the text that may stand there instead.
 pub struct Words {
     pub command: u8,
     pub a: usize,
@@ -80,6 +80,7 @@ pub struct Words {
     pub c: usize,
     pub second: usize,
     pub third: usize,
+    pub fourth: usize,
 }
 
 pub fn split(line: &[u8]) -> Words {
@@ -93,5 +94,6 @@ pub fn split(line: &[u8]) -> Words {
         c: number(line, third),
         second,
         third,
+        fourth: next(line, third),
     }
 }
