@@ -1,6 +1,6 @@
 /*
- * Checks a cache, prints the images of one icon, each with its directory and flags, and two short
- * pages of the icons: example CACHE NAME
+ * Checks a cache, prints the images of one icon, each with its directory and flags, two short pages
+ * of the icons, and which image of the icon is picked for some sizes: example CACHE NAME
  */
 #include "icon_cache.h"
 
@@ -159,6 +159,48 @@ static void list(void)
     }
 }
 
+static unsigned u16_at(size_t offset)
+{
+    return (unsigned)cache[offset] << 8 | cache[offset + 1];
+}
+
+/*
+ * Whatever the cache, an image that was picked lies inside, and begins with the index of its
+ * directory and its flags.
+ */
+static void pick(const char *name, uint32_t size, const uint32_t *directories, size_t directories_len)
+{
+    size_t place;
+    uint32_t number = icon_cache_pick(cache, cache_len, (const uint8_t *)name, strlen(name),
+                                      size, 1, directories, directories_len, &place);
+    printf("pick for size %u: ", (unsigned)size);
+    if (number != 0) {
+        printf("answer %u at %zu\n", (unsigned)number, place);
+    } else if (place == 0) {
+        printf("none fits\n");
+    } else {
+        printf("image at %zu, directory %u, flags %u\n", place, u16_at(place), u16_at(place + 2));
+    }
+}
+
+/*
+ * The words of two directories: type, Size, Scale, MinSize, MaxSize, Threshold. In a real program
+ * they come from the theme's index.theme.
+ */
+static void pick_some(const char *name)
+{
+    static const uint32_t directories[] = {
+        0, 16, 1, 16, 16, 2,  /* Fixed */
+        1, 64, 1, 32, 256, 2, /* Scalable */
+    };
+    static const uint32_t unknown_type[] = {0, 16, 1, 16, 16, 2, 3, 64, 1, 32, 256, 2};
+    pick(name, 16, directories, 12);
+    pick(name, 48, directories, 12);
+    pick(name, 512, directories, 12);
+    pick(name, 16, directories, 6); /* too few words */
+    pick(name, 16, unknown_type, 12);
+}
+
 int main(int argc, char **argv)
 {
     if (argc != 3) {
@@ -171,5 +213,6 @@ int main(int argc, char **argv)
     int refused = check();
     int not_found = lookup(argv[2]);
     list(); /* what it refuses, the check has refused too */
+    pick_some(argv[2]);
     return refused || not_found;
 }

@@ -4,7 +4,8 @@
  * Every function takes any bytes in the cache, any name and any number, and
  * returns an answer number:
  *
- *    0  accepted, found, or handed back          place: 0, or the record found
+ *    0  accepted, found, handed back or picked   place: 0, the record found, or
+ *                                                       the image picked
  *    1  fewer than 12 bytes                      place: 0
  *    2  more than 16,777,216 bytes               place: 0
  *    3  the version is not 1.0                   place: 0
@@ -35,12 +36,15 @@
  *       numbering is unknown
  *   28  no further record                        place: 0
  *   30  no record bears the name                 place: 0
+ *   31  not six words for each directory         place: 0
+ *   32  a type above 2                           place: the word's index in
+ *                                                       `directories`
  *
  * What the caller owes:
  *  - a pointer that comes with a length points to that many bytes or words, and
  *    is not NULL even where the length is 0;
- *  - cache and name are not written to while a call runs, by any thread, and
- *    `words` does not overlap them;
+ *  - cache, name and the words of the directories are not written to while a
+ *    call runs, by any thread, and `words` does not overlap them;
  *  - each output pointer points to one object of its own; bucket and count are
  *    read too, so a number stands in both.
  * Nothing is kept after a call returns, nothing is allocated, and no call takes
@@ -149,6 +153,40 @@ uint32_t icon_cache_list(const uint8_t *cache, size_t cache_len,
  */
 uint32_t icon_cache_flags_in(uint16_t raw, uint32_t numbering, uint16_t *flags);
 uint32_t icon_cache_flags_out(uint16_t flags, uint32_t numbering, uint16_t *raw);
+
+/*
+ * Picks the first image of the icon `name`, in the order of its list, that is
+ * made for `size` at `scale`. A cache doesn't say what its directories are made
+ * for, so the caller does, mostly as the theme's index.theme has it. In
+ * `directories` stand six words for each directory of the cache, in the cache's
+ * order: its type, Size, Scale, MinSize, MaxSize and Threshold. A directory
+ * fits if its Scale is `scale` and, by its type,
+ *
+ *    0  Fixed      Size is `size`;
+ *    1  Scalable   MinSize <= `size` <= MaxSize;
+ *    2  Threshold  `size` and Size are at most Threshold apart. Nothing wraps:
+ *                  with 0xFFFFFFFF every size fits.
+ *
+ * With 0, *place is the offset of the image, or 0 if none fits. The big-endian
+ * numbers of two bytes at *place and at *place + 2 are the index of the image's
+ * directory and its flags. An image without a directory never fits; only a
+ * cache that has no directories has such, and `directories_len` is 0 then.
+ *
+ * The lookup's refusals come first, with 30 among them and at the same places,
+ * but never 14. Then comes 31, unless `directories_len` is six times the number
+ * of directories, and then 32: the type of every directory is judged, of those
+ * too that no image names. The other words may be any numbers: with a MinSize
+ * above its MaxSize a Scalable directory fits nothing. Nothing is written but
+ * *place.
+ *
+ * Paths are not judged: icon_cache_directory_path judges that of the image. An
+ * endless chain costs as much time as in the lookup.
+ */
+uint32_t icon_cache_pick(const uint8_t *cache, size_t cache_len,
+                         const uint8_t *name, size_t name_len,
+                         uint32_t size, uint32_t scale,
+                         const uint32_t *directories, size_t directories_len,
+                         size_t *place);
 
 #ifdef __cplusplus
 }
