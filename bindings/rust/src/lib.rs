@@ -4,7 +4,9 @@
 //! the whole cache, [`lookup`] finds the images of one icon name, [`directory`]
 //! gives the path of one directory index, [`records`] hands back all icon records,
 //! and [`records_from`] those from a [`Position`] on. [`Flags`] names the flags of
-//! an image by the [`Numbering`] of the cache's generator.
+//! an image by the [`Numbering`] of the cache's generator. [`pick`] chooses the
+//! image of an icon for a size; what the directories are made for is told by
+//! the words that a [`Theme`] gives.
 //!
 //! ```
 //! use icon_cache::{check, directory, lookup, records, FARM_CACHE};
@@ -21,20 +23,25 @@
 //! # Ok::<(), icon_cache::Refusal>(())
 //! ```
 //!
-//! What is wrong with a cache is told by a [`Refusal`]. The module [`raw`] has
-//! the same calls without any allocation.
+//! What is wrong with a cache is told by a [`Refusal`], and what is wrong with an
+//! `index.theme` by a [`ThemeError`]. The module [`raw`] has the calls on caches
+//! without any allocation.
 
 mod farm;
 mod flags;
+mod pick;
 pub mod raw;
 mod records;
 mod refusal;
+mod theme;
 
 pub use farm::FARM_CACHE;
 pub use flags::{Flags, Numbering};
+pub use pick::{pick, Picked, WORDS_PER_DIRECTORY};
 pub use raw::Position;
 pub use records::{records, records_from, Record, Records};
 pub use refusal::Refusal;
+pub use theme::{Theme, ThemeError, ThemeFault};
 
 /// The largest length of a cache, 16 MiB. A longer one is refused.
 ///

@@ -94,6 +94,16 @@ pub struct Renumbered {
     pub flags: u16,
 }
 
+/// The answer of [`pick`].
+#[derive(Clone, Copy, Debug, PartialEq, Eq)]
+pub struct Pick {
+    /// The answer number, 0 for an image picked and for none that fits.
+    pub number: u32,
+    /// With 0, the offset of the image picked, or 0 if none fits. With 32, the index
+    /// of the type in the words lent. With any other number the offset of the fault.
+    pub place: usize,
+}
+
 mod c {
     extern "C" {
         pub fn icon_cache_check(
@@ -144,6 +154,18 @@ mod c {
         pub fn icon_cache_flags_in(raw: u16, numbering: u32, flags: *mut u16) -> u32;
 
         pub fn icon_cache_flags_out(flags: u16, numbering: u32, raw: *mut u16) -> u32;
+
+        pub fn icon_cache_pick(
+            cache: *const u8,
+            cache_len: usize,
+            name: *const u8,
+            name_len: usize,
+            size: u32,
+            scale: u32,
+            directories: *const u32,
+            directories_len: usize,
+            place: *mut usize,
+        ) -> u32;
     }
 }
 
@@ -306,4 +328,34 @@ pub fn flags_out(flags: u16, numbering: u32) -> Renumbered {
     // SAFETY: the pointer is valid for this call, and only the flags are written.
     let number = unsafe { c::icon_cache_flags_out(flags, numbering, &mut raw) };
     Renumbered { number, flags: raw }
+}
+
+/// Picks the first image of an icon whose directory fits a size and a scale. The six
+/// words of each directory of the cache, in its order, are the type (0 Fixed, 1
+/// Scalable, 2 Threshold), Size, Scale, MinSize, MaxSize and Threshold.
+#[inline]
+pub fn pick(cache: &[u8], name: &[u8], size: u32, scale: u32, directories: &[u32]) -> Pick {
+    let no_words = 0;
+    let lent = if directories.is_empty() {
+        &no_words
+    } else {
+        directories.as_ptr()
+    };
+    let mut place = UNWRITTEN;
+    // SAFETY: the pointers are valid for the lengths given and for this call,
+    // and only the place is written.
+    let number = unsafe {
+        c::icon_cache_pick(
+            address(cache),
+            cache.len(),
+            address(name),
+            name.len(),
+            size,
+            scale,
+            lent,
+            directories.len(),
+            &mut place,
+        )
+    };
+    Pick { number, place }
 }

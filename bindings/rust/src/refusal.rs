@@ -18,13 +18,16 @@ use std::fmt;
 /// ```
 #[derive(Clone, Copy, Debug, PartialEq, Eq)]
 pub struct Refusal {
-    /// The answer number, 1 to 16, 26, 27 or 30.
+    /// The answer number, 1 to 16, 26, 27 or 30 to 32.
     pub number: u32,
-    /// The offset of the fault in the cache, 0 where it has none.
+    /// The offset of the fault in the cache, 0 where it has none. With
+    /// [`BAD_TYPE`](Refusal::BAD_TYPE) alone it is no offset: it is the index of the
+    /// type in the words lent.
     pub place: usize,
     /// How many icon records the call opened. It is 0 from
     /// [`directory`](crate::directory) and [`Flags`](crate::Flags), which open
-    /// none, and from [`Records`](crate::Records), which doesn't count them.
+    /// none, and from [`Records`](crate::Records) and [`pick`](crate::pick), which
+    /// don't count them.
     pub opened: usize,
 }
 
@@ -52,6 +55,12 @@ impl Refusal {
     pub const BAD_FLAGS: u32 = 27;
     /// No record bears the name asked for.
     pub const ABSENT: u32 = 30;
+    /// The words lent to [`pick`](crate::pick) are not six for each directory of the
+    /// cache.
+    pub const WRONG_WORD_COUNT: u32 = 31;
+    /// A type in the words lent to [`pick`](crate::pick) is above 2. The place is its
+    /// index in these words, six times that of the directory.
+    pub const BAD_TYPE: u32 = 32;
 }
 
 impl fmt::Display for Refusal {
@@ -76,6 +85,8 @@ impl fmt::Display for Refusal {
             26 => "the position asked for names no bucket, or its count is too large",
             27 => "the flags are above 15, or their numbering is unknown",
             30 => "there is no icon of this name",
+            31 => "there are not six words for each directory",
+            32 => "the type of a directory is above 2",
             _ => "the answer number is unknown",
         })
     }
@@ -109,6 +120,8 @@ mod tests {
             (Refusal::BAD_POSITION, "the position"),
             (Refusal::BAD_FLAGS, "the flags are above 15"),
             (Refusal::ABSENT, "no icon"),
+            (Refusal::WRONG_WORD_COUNT, "not six words"),
+            (Refusal::BAD_TYPE, "the type of a directory"),
         ] {
             assert!(sentence(number).contains(words), "{number}");
         }
@@ -116,8 +129,9 @@ mod tests {
 
     #[test]
     fn each_number_has_its_own_sentence() {
-        let known: HashSet<_> = (1..=16).chain([26, 27, 30]).map(sentence).collect();
-        assert_eq!(known.len(), 19);
+        let numbers = (1..=16).chain([26, 27]).chain(30..=32);
+        let known: HashSet<_> = numbers.map(sentence).collect();
+        assert_eq!(known.len(), 21);
         assert!(!known.contains(&sentence(0)));
     }
 }
