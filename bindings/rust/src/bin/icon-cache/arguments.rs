@@ -22,6 +22,18 @@ pub enum Request {
         from: Position,
         limit: usize,
     },
+    Pick {
+        theme: OsString,
+        names: Vec<OsString>,
+        wanted: Wanted,
+    },
+}
+
+/// What an image is picked for, and how its flags are shown.
+pub struct Wanted {
+    pub size: u32,
+    pub scale: u32,
+    pub numbering: Numbering,
 }
 
 /// Why a command line is not understood.
@@ -40,7 +52,7 @@ struct Command {
     request: fn(Given) -> Result<Request, &'static str>,
 }
 
-const COMMANDS: [Command; 4] = [
+const COMMANDS: [Command; 5] = [
     Command {
         name: "check",
         help: help::CHECK,
@@ -65,11 +77,19 @@ const COMMANDS: [Command; 4] = [
         options: &[FROM, LIMIT],
         request: list,
     },
+    Command {
+        name: "pick",
+        help: help::PICK,
+        options: &[SIZE, SCALE, NUMBERING],
+        request: pick,
+    },
 ];
 
 const FROM: &str = "--from";
 const LIMIT: &str = "--limit";
 const NUMBERING: &str = "--numbering";
+const SIZE: &str = "--size";
+const SCALE: &str = "--scale";
 
 /// What stands behind the name of a command.
 #[derive(Default)]
@@ -159,24 +179,38 @@ fn check(given: Given) -> Result<Request, &'static str> {
 }
 
 fn lookup(given: Given) -> Result<Request, &'static str> {
-    let numbering = match given.values.get(NUMBERING) {
-        Some(value) => numbering(value).ok_or("--numbering takes freedesktop or gtk")?,
-        None => Numbering::default(),
-    };
-    let mut operands = given.operands;
-    match operands.len() {
-        0 => Err("a file and a name are missing"),
-        1 => Err("a name is missing"),
-        _ => {
-            let names = operands.split_off(1);
-            let file = operands.remove(0);
-            Ok(Request::Lookup {
-                file,
-                names,
-                numbering,
-            })
-        }
+    let numbering = numbering(&given)?;
+    let (file, names) = with_names(given.operands, "a file and a name are missing")?;
+    Ok(Request::Lookup {
+        file,
+        names,
+        numbering,
+    })
+}
+
+fn pick(given: Given) -> Result<Request, &'static str> {
+    let numbering = numbering(&given)?;
+    let (theme, names) = with_names(given.operands, "a theme and a name are missing")?;
+    // Its files would be looked for in the working directory.
+    if theme.is_empty() {
+        return Err("the theme has no name");
     }
+    let size = given.values.get(SIZE).ok_or("--size is missing")?;
+    let size = word(size).ok_or("--size takes a number from 0 to 4294967295")?;
+    let scale = match given.values.get(SCALE) {
+        Some(value) => word(value).ok_or("--scale takes a number from 0 to 4294967295")?,
+        None => 1,
+    };
+    let wanted = Wanted {
+        size,
+        scale,
+        numbering,
+    };
+    Ok(Request::Pick {
+        theme,
+        names,
+        wanted,
+    })
 }
 
 fn dirs(given: Given) -> Result<Request, &'static str> {
@@ -205,11 +239,27 @@ fn only_file(mut files: Vec<OsString>) -> Result<OsString, &'static str> {
     }
 }
 
-fn numbering(value: &str) -> Option<Numbering> {
-    match value {
-        "freedesktop" => Some(Numbering::Freedesktop),
-        "gtk" => Some(Numbering::Gtk),
-        _ => None,
+/// A file or a theme, and at least one name.
+fn with_names(
+    mut operands: Vec<OsString>,
+    both_missing: &'static str,
+) -> Result<(OsString, Vec<OsString>), &'static str> {
+    match operands.len() {
+        0 => Err(both_missing),
+        1 => Err("a name is missing"),
+        _ => {
+            let names = operands.split_off(1);
+            Ok((operands.remove(0), names))
+        }
+    }
+}
+
+fn numbering(given: &Given) -> Result<Numbering, &'static str> {
+    match given.values.get(NUMBERING).map(String::as_str) {
+        None => Ok(Numbering::default()),
+        Some("freedesktop") => Ok(Numbering::Freedesktop),
+        Some("gtk") => Ok(Numbering::Gtk),
+        Some(_) => Err("--numbering takes freedesktop or gtk"),
     }
 }
 
@@ -232,6 +282,12 @@ fn page_length(value: &str) -> Option<usize> {
 fn number(digits: &str) -> Option<usize> {
     let is_number = !digits.is_empty() && digits.bytes().all(|digit| digit.is_ascii_digit());
     is_number.then(|| digits.parse().unwrap_or(usize::MAX))
+}
+
+/// A size or a scale. One that is too large is none: the largest may fit where it
+/// doesn't.
+fn word(digits: &str) -> Option<u32> {
+    u32::try_from(number(digits)?).ok()
 }
 
 /// A dash alone is standard input.

@@ -1,10 +1,10 @@
-//! The four commands.
+//! The commands on one cache, or several.
 
 use crate::input::Source;
 use crate::output::{Colour, Output, Status};
 use crate::show;
 use icon_cache::raw::{self, Position};
-use icon_cache::{Found, Image, Numbering, Record, Refusal};
+use icon_cache::{Found, Image, Numbering, Record, Refusal, LARGEST};
 use std::ffi::{OsStr, OsString};
 
 pub fn check(output: &mut Output, files: &[OsString]) -> Status {
@@ -23,13 +23,9 @@ pub fn lookup(
     numbering: Numbering,
 ) -> Status {
     with_cache(output, file, |output, _, cache| {
-        let names = names.iter().map(|name| name.as_encoded_bytes());
-        let status = names.map(|name| {
-            let status = lookup_name(output, cache, name, numbering);
-            output.flush();
-            status
-        });
-        status.max().unwrap_or(Status::Good)
+        for_names(output, names, |output, name| {
+            lookup_name(output, cache, name, numbering)
+        })
     })
 }
 
@@ -43,21 +39,43 @@ pub fn list(output: &mut Output, file: &OsStr, from: Position, limit: usize) -> 
     })
 }
 
-/// Reads the cache and hands it on with its name, if it can be read.
 fn with_cache(
     output: &mut Output,
     file: &OsStr,
     command: impl FnOnce(&mut Output, &str, &[u8]) -> Status,
 ) -> Status {
-    let source = Source::of(file);
+    with_bytes(output, &Source::of(file), LARGEST, command)
+}
+
+/// Reads the source and hands its bytes on with its name, if it can be read.
+pub fn with_bytes(
+    output: &mut Output,
+    source: &Source,
+    largest: usize,
+    command: impl FnOnce(&mut Output, &str, &[u8]) -> Status,
+) -> Status {
     let shown = source.shown();
-    match source.read() {
-        Ok(cache) => command(output, &shown, &cache),
+    match source.read(largest) {
+        Ok(bytes) => command(output, &shown, &bytes),
         Err(error) => {
             output.complain(&format!("{shown}: {error}"));
             Status::Failed
         }
     }
+}
+
+/// Asks for each name, and shows its answer at once.
+pub fn for_names(
+    output: &mut Output,
+    names: &[OsString],
+    mut ask: impl FnMut(&mut Output, &[u8]) -> Status,
+) -> Status {
+    let status = names.iter().map(|name| {
+        let status = ask(output, name.as_encoded_bytes());
+        output.flush();
+        status
+    });
+    status.max().unwrap_or(Status::Good)
 }
 
 fn check_file(output: &mut Output, file: &OsStr) -> Status {
@@ -78,9 +96,22 @@ fn check_file(output: &mut Output, file: &OsStr) -> Status {
 }
 
 fn say_refused(output: &mut Output, what: &str, refusal: &Refusal) -> Status {
+    say_refused_for(output, what, &show::refusal(refusal))
+}
+
+pub fn say_refused_for(output: &mut Output, what: &str, why: &str) -> Status {
     let refused = output.paint(Colour::Red, "refused");
-    let why = show::refusal(refusal);
     output.line(&format!("{what}: {refused}: {why}"));
+    Status::Refused
+}
+
+/// The name is absent, or the way to it is refused.
+pub fn say_not_found(output: &mut Output, name: &str, refusal: &Refusal) -> Status {
+    if refusal.number != Refusal::ABSENT {
+        return say_refused(output, name, refusal);
+    }
+    let absent = output.paint(Colour::Yellow, "absent");
+    output.line(&format!("{name}: {absent}: {refusal}"));
     Status::Refused
 }
 
@@ -88,12 +119,7 @@ fn lookup_name(output: &mut Output, cache: &[u8], name: &[u8], numbering: Number
     let shown = show::bytes(name);
     match icon_cache::lookup(cache, name) {
         Ok(icon) => say_found(output, cache, &shown, &icon, numbering),
-        Err(refusal) if refusal.number == Refusal::ABSENT => {
-            let absent = output.paint(Colour::Yellow, "absent");
-            output.line(&format!("{shown}: {absent}: {refusal}"));
-            Status::Refused
-        }
-        Err(refusal) => say_refused(output, &shown, &refusal),
+        Err(refusal) => say_not_found(output, &shown, &refusal),
     }
 }
 

@@ -3,25 +3,27 @@
 pub const VERSION: &str = concat!("icon-cache ", env!("CARGO_PKG_VERSION"));
 
 pub const TOOL: &str = "\
-Checks icon theme caches (icon-theme.cache), looks up icons in them and lists
-what they have.
+Checks icon theme caches (icon-theme.cache), looks up icons in them, lists what
+they have and picks images for a size.
 
 Usage:
   icon-cache check FILE...         say whether each cache is sound
   icon-cache lookup FILE NAME...   show the images of each icon
   icon-cache dirs FILE             list the directories of a cache
   icon-cache list FILE             list the icons of a cache, or a page of them
+  icon-cache pick THEME NAME...    pick the image of each icon for a size
 
 A directory as FILE stands for the icon-theme.cache in it, and - for standard
-input. After -- no argument is taken for an option.
+input. THEME is the folder of a theme. After -- no argument is taken for an
+option.
 
 Options:
   -h, --help      show this help, or that of a command after its name
   -V, --version   show the version
 
 Exit status:
-  0  accepted, found or listed
-  1  refused or absent
+  0  accepted, found, listed or picked
+  1  refused or absent, or no image fits
   2  a wrong command line, or a file that can't be read
 
 On a terminal the output has colours, unless NO_COLOR is set and not empty, or
@@ -99,3 +101,37 @@ none of it is listed. To go on behind either, begin at the next bucket. A long
 chain costs the square of its length. `icon-cache check` judges the whole cache.
 
 Exit status: 0 listed, 1 refused, 2 a file that can't be read.";
+
+pub const PICK: &str = "\
+Picks the image of each icon for a size: directory, flags and the offset of the
+image in the cache, in one line for each name.
+
+Usage: icon-cache pick THEME NAME... --size N [--scale N]
+       [--numbering freedesktop|gtk]
+
+THEME is the folder of a theme. Its icon-theme.cache says which images an icon
+has, and its index.theme for which sizes and which scale each directory is made.
+The first image, in the order of the cache, whose directory fits is picked. It
+fits if its scale is the one asked for and, by its type,
+
+  Fixed       its size is the one asked for
+  Scalable    the size asked for is MinSize at least and MaxSize at most
+  Threshold   the size asked for and its size are at most Threshold apart
+
+A directory that the index.theme doesn't list and describe never fits.
+
+A NAME is that of the icon, without directory and suffix: folder-open. Names
+that begin with - are given after --.
+
+Options:
+  --size N       the size asked for; it must be given
+  --scale N      the scale asked for, 1 if none is given
+  --numbering freedesktop|gtk
+                 how the flags are numbered, as in `icon-cache lookup --help`
+
+An index.theme that is malformed or above 1,048,576 bytes is refused. Only the
+records on the way to an icon are judged; `icon-cache check` judges the whole
+cache.
+
+Exit status: 0 all picked, 1 one absent or refused or without an image that
+fits, 2 a file that can't be read.";

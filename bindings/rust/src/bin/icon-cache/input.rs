@@ -1,14 +1,14 @@
-//! Where a cache comes from.
+//! Where a cache and the description of a theme come from.
 
 use crate::show;
-use icon_cache::LARGEST;
 use std::ffi::OsStr;
 use std::fs::File;
 use std::io::{self, Read};
 use std::os::fd::AsFd;
-use std::path::PathBuf;
+use std::path::{Path, PathBuf};
 
-const FILE_NAME: &str = "icon-theme.cache";
+const CACHE: &str = "icon-theme.cache";
+const INDEX: &str = "index.theme";
 
 pub enum Source {
     StandardInput,
@@ -22,17 +22,27 @@ impl Source {
         }
         let path = PathBuf::from(operand);
         if path.is_dir() {
-            Source::File(path.join(FILE_NAME))
+            Source::File(path.join(CACHE))
         } else {
             Source::File(path)
         }
     }
 
-    /// The cache, or its first bytes where it is too large.
-    pub fn read(&self) -> io::Result<Vec<u8>> {
+    /// The cache in the folder of a theme.
+    pub fn cache_of(theme: &OsStr) -> Source {
+        Source::File(Path::new(theme).join(CACHE))
+    }
+
+    /// The description in the folder of a theme.
+    pub fn index_of(theme: &OsStr) -> Source {
+        Source::File(Path::new(theme).join(INDEX))
+    }
+
+    /// The bytes, or the first of them where there are more than the largest length.
+    pub fn read(&self, largest: usize) -> io::Result<Vec<u8>> {
         match self {
-            Source::StandardInput => read_limited(standard_input()?),
-            Source::File(path) => read_limited(File::open(path)?),
+            Source::StandardInput => read_limited(standard_input()?, largest),
+            Source::File(path) => read_limited(File::open(path)?, largest),
         }
     }
 
@@ -54,9 +64,9 @@ fn standard_input() -> io::Result<File> {
     Ok(File::from(descriptor))
 }
 
-/// One byte above the limit is enough for the library to refuse the cache.
-fn read_limited(file: File) -> io::Result<Vec<u8>> {
+/// One byte above the limit is enough to refuse the file.
+fn read_limited(file: File, largest: usize) -> io::Result<Vec<u8>> {
     let mut bytes = Vec::new();
-    file.take(LARGEST as u64 + 1).read_to_end(&mut bytes)?;
+    file.take(largest as u64 + 1).read_to_end(&mut bytes)?;
     Ok(bytes)
 }

@@ -1,11 +1,12 @@
-//! The tool `icon-cache`: checks caches, looks up icons, and lists directories
-//! and icons.
+//! The tool `icon-cache`: checks caches, looks up icons, lists directories and
+//! icons, and picks images for a size.
 
 mod arguments;
 mod commands;
 mod help;
 mod input;
 mod output;
+mod pick;
 mod show;
 
 use arguments::{Misuse, Request};
@@ -34,6 +35,11 @@ fn answer(output: &mut Output, request: Request) -> Status {
         } => commands::lookup(output, &file, &names, numbering),
         Request::Dirs(file) => commands::dirs(output, &file),
         Request::List { file, from, limit } => commands::list(output, &file, from, limit),
+        Request::Pick {
+            theme,
+            names,
+            wanted,
+        } => pick::pick(output, &theme, &names, &wanted),
     }
 }
 

@@ -7,9 +7,9 @@ use std::process::ExitCode;
 /// The exit status; of several, the worst counts.
 #[derive(Clone, Copy, Debug, PartialEq, Eq, PartialOrd, Ord)]
 pub enum Status {
-    /// Accepted, found or listed.
+    /// Accepted, found, listed or picked.
     Good = 0,
-    /// Refused or absent.
+    /// Refused or absent, or no image fits.
     Refused = 1,
     /// A wrong command line, or a file that can't be read.
     Failed = 2,
