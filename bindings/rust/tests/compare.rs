@@ -11,6 +11,7 @@ mod reader;
 mod side_by_side;
 
 use counts::{Counts, Met, OnPurpose};
+use generator::wanted::Wanted;
 use generator::{damage, name_in_bucket, name_of_hash, positions, series, Random, Sound, WRAPPING};
 use reader::{Position, Step};
 use side_by_side::{Difference, Pair};
@@ -37,6 +38,9 @@ const LANES: u64 = 16;
 /// Above this length only a few questions are asked.
 const LARGE: usize = 100_000;
 
+/// One name in so many is asked of the pick too, after the first.
+const PICKS: usize = 24;
+
 /// The most records of a walk over an accepted cache. Each step passes those before
 /// it on its chain again, so the cost grows with their square. Only the longest of
 /// the chains on purpose have more.
@@ -59,7 +63,7 @@ fn the_library_agrees_with_the_reader() {
     counts.print();
     println!("in {:.1?}", start.elapsed());
     counts.demand_every_answer();
-    counts.steps.demand_all();
+    counts.meetings.demand_all();
     counts.on_purpose.demand_large_ones();
     assert!(counts.different() >= buffers, "too few different buffers");
 }
@@ -226,15 +230,19 @@ impl<'a> Comparison<'a> {
     fn ask_all(&mut self, lent: &[u8]) -> Result<(), Difference> {
         let pair = Pair::new(lent);
         let check = pair.check()?;
-        self.counts.check[check.number as usize] += 1;
+        self.counts.check.note(check.number);
         for (i, name) in self.queries(lent).iter().enumerate() {
             self.ask_lookup(&pair, name, i == 0)?;
+            // The first name is mostly there.
+            if i == 0 || self.random.one_in(PICKS) {
+                self.ask_pick(&pair, lent, name)?;
+            }
         }
         for index in self.indexes(lent) {
             let answer = pair.directory(index)?;
-            self.counts.directory[answer.number as usize] += 1;
+            self.counts.directory.note(answer.number);
             let answer = pair.directory_path(index)?;
-            self.counts.path[answer.number as usize] += 1;
+            self.counts.path.note(answer.number);
         }
         let chains = reader::chain_lengths(lent);
         self.ask_steps(&Listed {
@@ -259,7 +267,7 @@ impl<'a> Comparison<'a> {
             if step.number == 0 {
                 let next = self.step(cache, step.position)?;
                 let largest = step.position.count == length - 10 && next.number == 26;
-                self.counts.steps.note(Met::LargestCount, largest);
+                self.counts.meetings.note(Met::LargestCount, largest);
             }
         }
         Ok(())
@@ -279,12 +287,12 @@ impl<'a> Comparison<'a> {
             step = self.step(cache, step.position)?;
         }
         let whole = number == 0 && icons <= most;
-        self.counts.steps.note(Met::WholeWalk, whole);
+        self.counts.meetings.note(Met::WholeWalk, whole);
         if whole {
             demand_each_once(&records, step.number, icons)?;
         }
         let shared = step.number == 9 && records.contains(&(step.place - 4));
-        self.counts.steps.note(Met::SharedRecord, shared);
+        self.counts.meetings.note(Met::SharedRecord, shared);
         if (7..=11).contains(&step.number) {
             self.step_behind_fault(cache, &step)?;
         }
@@ -298,24 +306,26 @@ impl<'a> Comparison<'a> {
         let step = self.step(cache, behind)?;
         let same = (step.number, step.place) == (fault.number, fault.place);
         let between = (2..cache.chains[behind.bucket]).contains(&behind.count);
-        self.counts.steps.note(Met::FaultBetween, same && between);
+        self.counts
+            .meetings
+            .note(Met::FaultBetween, same && between);
         Ok(())
     }
 
     fn step(&mut self, cache: &Listed, from: Position) -> Result<Step, Difference> {
         let step = cache.pair.list(from)?;
-        self.counts.list[step.number as usize] += 1;
-        let steps = &mut self.counts.steps;
+        self.counts.list.note(step.number);
+        let meetings = &mut self.counts.meetings;
         if step.number == 0 {
             let bucket = step.position.bucket;
-            steps.note(Met::EmptyBuckets, bucket > from.bucket + 1);
+            meetings.note(Met::EmptyBuckets, bucket > from.bucket + 1);
             let behind = from.count >= cache.chains[from.bucket];
-            steps.note(Met::RecordAgain, behind && bucket == from.bucket);
+            meetings.note(Met::RecordAgain, behind && bucket == from.bucket);
         }
         if step.number == 28 {
-            steps.note(Met::PathAtFault, cache.check.number == 6);
-            steps.note(Met::SegmentAtFault, cache.check.number == 16);
-            steps.note(Met::FaultBefore, (7..=12).contains(&cache.check.number));
+            meetings.note(Met::PathAtFault, cache.check.number == 6);
+            meetings.note(Met::SegmentAtFault, cache.check.number == 16);
+            meetings.note(Met::FaultBefore, (7..=12).contains(&cache.check.number));
         }
         Ok(step)
     }
@@ -323,16 +333,43 @@ impl<'a> Comparison<'a> {
     /// Asks with no room, too little, just enough and more.
     fn ask_lookup(&mut self, pair: &Pair, name: &[u8], thorough: bool) -> Result<(), Difference> {
         let (answer, _) = pair.lookup(name, 0)?;
-        self.counts.lookup[answer.number as usize] += 1;
+        self.counts.lookup.note(answer.number);
         let need = 2 * answer.images;
         let rooms = [need.saturating_sub(1), need, need + 3];
         let chosen = self.random.below(rooms.len());
         for (i, &room) in rooms.iter().enumerate() {
             if thorough || i == chosen {
                 let (answer, _) = pair.lookup(name, room)?;
-                self.counts.lookup[answer.number as usize] += 1;
+                self.counts.lookup.note(answer.number);
             }
         }
+        Ok(())
+    }
+
+    fn ask_pick(&mut self, pair: &Pair, lent: &[u8], name: &[u8]) -> Result<(), Difference> {
+        let directories = reader::sizes(lent).map_or(1, |(directories, _)| directories);
+        let wanted = Wanted::make(&mut self.random, directories);
+        let answer = pair.pick(name, wanted.size, wanted.scale, &wanted.directories)?;
+        self.counts.pick.note(answer.number);
+        let meetings = &mut self.counts.meetings;
+        let bad_type = wanted.directories.chunks(6).any(|words| words[0] > 2);
+        meetings.note(Met::CountBeforeType, answer.number == 31 && bad_type);
+        if answer.number != 0 {
+            return Ok(());
+        }
+        if answer.place == 0 {
+            meetings.note(Met::NoneFits, answer.passed > 0);
+            meetings.note(Met::NoDirectories, answer.passed > 0 && directories == 0);
+            return Ok(());
+        }
+        meetings.note(Met::PickedFirst, answer.passed == 0);
+        meetings.note(Met::PickedLater, answer.passed > 0);
+        let (directory, ..) = reader::image(lent, answer.place);
+        let words = &wanted.directories[6 * usize::from(directory)..][..6];
+        let by_type = [Met::PickedFixed, Met::PickedScalable, Met::PickedThreshold];
+        meetings.note(by_type[words[0] as usize], true);
+        let far_apart = words[0] == 2 && wanted.size.abs_diff(words[1]) > i32::MAX as u32;
+        meetings.note(Met::PickedFarApart, far_apart);
         Ok(())
     }
 

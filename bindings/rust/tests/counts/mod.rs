@@ -34,7 +34,7 @@ impl OnPurpose {
     }
 }
 
-/// What steps meet and their answer numbers do not tell.
+/// What steps and picks meet and their answer numbers do not tell.
 #[derive(Clone, Copy, Debug)]
 pub enum Met {
     /// A walk over all records of an accepted cache.
@@ -56,10 +56,26 @@ pub enum Met {
     SegmentAtFault,
     /// The end, in a cache with a lower bucket at fault.
     FaultBefore,
+    /// The first image of a list, picked.
+    PickedFirst,
+    /// An image picked, with others before it that don't fit.
+    PickedLater,
+    /// An image picked by each type of its directory.
+    PickedFixed,
+    PickedScalable,
+    PickedThreshold,
+    /// A size picked that is further from Size than a signed number reaches.
+    PickedFarApart,
+    /// None that fits, of one image or more.
+    NoneFits,
+    /// None that fits in a cache without directories, of one image or more.
+    NoDirectories,
+    /// A type above 2, in words of a wrong number.
+    CountBeforeType,
 }
 
 impl Met {
-    const ALL: [Met; 9] = [
+    const ALL: [Met; 18] = [
         Met::WholeWalk,
         Met::EmptyBuckets,
         Met::RecordAgain,
@@ -69,19 +85,28 @@ impl Met {
         Met::PathAtFault,
         Met::SegmentAtFault,
         Met::FaultBefore,
+        Met::PickedFirst,
+        Met::PickedLater,
+        Met::PickedFixed,
+        Met::PickedScalable,
+        Met::PickedThreshold,
+        Met::PickedFarApart,
+        Met::NoneFits,
+        Met::NoDirectories,
+        Met::CountBeforeType,
     ];
 }
 
-/// How often steps met each.
+/// How often each was met.
 #[derive(Default)]
-pub struct Steps([u64; Met::ALL.len()]);
+pub struct Meetings([u64; Met::ALL.len()]);
 
-impl Steps {
+impl Meetings {
     pub fn note(&mut self, what: Met, met: bool) {
         self.0[what as usize] += u64::from(met);
     }
 
-    fn add(&mut self, other: &Steps) {
+    fn add(&mut self, other: &Meetings) {
         for (sum, more) in self.0.iter_mut().zip(other.0) {
             *sum += more;
         }
@@ -89,14 +114,36 @@ impl Steps {
 
     fn print(&self) {
         for what in Met::ALL {
-            println!("list met {what:?} {} times", self.0[what as usize]);
+            println!("met {what:?} {} times", self.0[what as usize]);
         }
     }
 
     pub fn demand_all(&self) {
         for what in Met::ALL {
-            assert!(self.0[what as usize] > 0, "list never met {what:?}");
+            assert!(self.0[what as usize] > 0, "never met {what:?}");
         }
+    }
+}
+
+/// How often a call gave each answer number; the largest is 32.
+pub struct Answers([u64; 33]);
+
+impl Answers {
+    pub fn note(&mut self, number: u32) {
+        self.0[number as usize] += 1;
+    }
+
+    fn add(&mut self, other: &Answers) {
+        for (sum, more) in self.0.iter_mut().zip(other.0) {
+            *sum += more;
+        }
+    }
+}
+
+/// An array of this length has no default.
+impl Default for Answers {
+    fn default() -> Self {
+        Answers([0; 33])
     }
 }
 
@@ -109,12 +156,13 @@ pub struct Counts {
     /// Buffers made sound; damaged ones may be sound too.
     pub sound: u64,
     pub on_purpose: OnPurpose,
-    pub check: [u64; 31],
-    pub lookup: [u64; 31],
-    pub directory: [u64; 31],
-    pub path: [u64; 31],
-    pub list: [u64; 31],
-    pub steps: Steps,
+    pub check: Answers,
+    pub lookup: Answers,
+    pub directory: Answers,
+    pub path: Answers,
+    pub list: Answers,
+    pub pick: Answers,
+    pub meetings: Meetings,
 }
 
 impl Counts {
@@ -134,31 +182,28 @@ impl Counts {
         self.met.extend(&other.met);
         self.sound += other.sound;
         self.on_purpose.add(&other.on_purpose);
-        self.steps.add(&other.steps);
-        for (sum, more) in [
-            (&mut self.check, &other.check),
-            (&mut self.lookup, &other.lookup),
-            (&mut self.directory, &other.directory),
-            (&mut self.path, &other.path),
-            (&mut self.list, &other.list),
-        ] {
-            for (sum, more) in sum.iter_mut().zip(more) {
-                *sum += more;
-            }
-        }
+        self.meetings.add(&other.meetings);
+        self.check.add(&other.check);
+        self.lookup.add(&other.lookup);
+        self.directory.add(&other.directory);
+        self.path.add(&other.path);
+        self.list.add(&other.list);
+        self.pick.add(&other.pick);
     }
 
     /// The counts of each call, and the numbers it can answer.
-    fn calls(&self) -> [(&str, &[u64; 31], Vec<usize>); 5] {
+    fn calls(&self) -> [(&str, &Answers, Vec<usize>); 6] {
         let lookup = [0, 1, 2, 3, 4, 5, 7, 8, 9, 10, 11, 12, 13, 14, 30];
         let directory = [0, 1, 2, 3, 4, 5, 6, 15, 16];
         let list = [0, 1, 2, 3, 4, 5, 7, 8, 9, 10, 11, 26, 28];
+        let pick = [0, 1, 2, 3, 4, 5, 7, 8, 9, 10, 11, 12, 13, 30, 31, 32];
         [
             ("check", &self.check, (0..=12).chain([16]).collect()),
             ("lookup", &self.lookup, lookup.into()),
             ("directory", &self.directory, directory.into()),
             ("path", &self.path, directory.into()),
             ("list", &self.list, list.into()),
+            ("pick", &self.pick, pick.into()),
         ]
     }
 
@@ -172,19 +217,21 @@ impl Counts {
         } = self.on_purpose;
         println!("{} made sound, {caches} damaged on purpose", self.sound);
         println!("with up to {directories} directories and {buckets} buckets");
-        println!("answer       check      lookup   directory        path        list");
-        for number in (0..=16).chain([26, 28, 30]) {
-            let counts = self.calls().map(|(_, counts, _)| counts[number]);
+        let calls = self.calls();
+        let heads = calls.each_ref().map(|(call, ..)| format!("{call:>12}"));
+        println!("answer{}", heads.concat());
+        for number in (0..=16).chain([26, 28, 30, 31, 32]) {
+            let counts = calls.each_ref().map(|(_, answers, _)| answers.0[number]);
             let columns = counts.map(|count| format!("{count:>12}"));
             println!("{number:>6}{}", columns.concat());
         }
-        self.steps.print();
+        self.meetings.print();
     }
 
     pub fn demand_every_answer(&self) {
-        for (call, counts, numbers) in self.calls() {
+        for (call, answers, numbers) in self.calls() {
             for number in numbers {
-                assert!(counts[number] > 0, "{call} never answered {number}");
+                assert!(answers.0[number] > 0, "{call} never answered {number}");
             }
         }
     }

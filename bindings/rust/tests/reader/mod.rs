@@ -5,6 +5,12 @@
 //! ends. No steps are counted; what stands at a count on such a chain is reckoned.
 //! The records are judged afterwards, in order.
 
+mod pick;
+
+// Not every program asks.
+#[allow(unused_imports)]
+pub use pick::{image, pick, Pick};
+
 use std::collections::HashSet;
 
 /// In a bucket field or a CHAIN_OFFSET: no further record.
@@ -228,6 +234,13 @@ struct Icon<'a> {
     images: usize,
 }
 
+impl Icon<'_> {
+    /// Where the image of this number stands, from 0 on.
+    fn image(&self, number: usize) -> usize {
+        self.image_list + 4 + 8 * number
+    }
+}
+
 /// Refusals 8 to 11 on a record of this bucket's chain.
 fn icon<'a>(
     cache: &'a [u8],
@@ -308,58 +321,72 @@ pub fn check(cache: &[u8]) -> Check {
     }
 }
 
-pub fn lookup(cache: &[u8], name: &[u8], words: &mut [u32]) -> Lookup {
-    let refused = |fault: Fault, opened| Lookup {
-        number: fault.number,
-        place: fault.place,
-        images: 0,
-        opened,
-    };
+/// The first record of a name on its chain, and how many are opened up to it.
+struct Match<'a> {
+    record: usize,
+    icon: Icon<'a>,
+    opened: usize,
+}
+
+/// A refusal comes with the number of records opened, too.
+fn find<'a>(cache: &'a [u8], name: &[u8]) -> Result<Match<'a>, (Fault, usize)> {
     if name.is_empty() || name.len() > 255 || name.contains(&0) {
-        return refused(fault(13, 0), 0);
+        return Err((fault(13, 0), 0));
     }
-    let tables = match tables(cache) {
-        Ok(tables) => tables,
-        Err(fault) => return refused(fault, 0),
-    };
+    let tables = tables(cache).map_err(|fault| (fault, 0))?;
     let bucket = tables.bucket_of(name);
     let bucket_field = tables.bucket_field(bucket);
     let chain = chain(cache, bucket_field);
     for (before, &record) in chain.records.iter().enumerate() {
         let opened = before + 1;
-        match icon(cache, &tables, bucket, record) {
-            Err(fault) => return refused(fault, opened),
-            Ok(icon) if icon.name == name => return found(cache, record, &icon, opened, words),
-            Ok(_) => {}
+        let icon = icon(cache, &tables, bucket, record).map_err(|fault| (fault, opened))?;
+        if icon.name == name {
+            return Ok(Match {
+                record,
+                icon,
+                opened,
+            });
         }
     }
     let length = chain.records.len();
-    match chain.end {
-        ChainEnd::Ended => refused(fault(30, 0), length),
-        ChainEnd::Outside { field } => refused(fault(7, field), length),
-        ChainEnd::Repeats { .. } => refused(fault(12, bucket_field), cache.len() - 10),
+    Err(match chain.end {
+        ChainEnd::Ended => (fault(30, 0), length),
+        ChainEnd::Outside { field } => (fault(7, field), length),
+        ChainEnd::Repeats { .. } => (fault(12, bucket_field), cache.len() - 10),
+    })
+}
+
+pub fn lookup(cache: &[u8], name: &[u8], words: &mut [u32]) -> Lookup {
+    match find(cache, name) {
+        Ok(found) => with_images(cache, &found, words),
+        Err((fault, opened)) => Lookup {
+            number: fault.number,
+            place: fault.place,
+            images: 0,
+            opened,
+        },
     }
 }
 
 /// The answer after a match: 0 with the images in the words, or 14.
-fn found(cache: &[u8], record: usize, icon: &Icon<'_>, opened: usize, words: &mut [u32]) -> Lookup {
-    let images = icon.images;
+fn with_images(cache: &[u8], found: &Match<'_>, words: &mut [u32]) -> Lookup {
+    let images = found.icon.images;
     let answer = |number, place| Lookup {
         number,
         place,
         images,
-        opened,
+        opened: found.opened,
     };
     if words.len() < 2 * images {
-        return answer(14, icon.image_list);
+        return answer(14, found.icon.image_list);
     }
     for i in 0..images {
-        let image = icon.image_list + 4 + 8 * i;
+        let image = found.icon.image(i);
         let (index, flags) = (number(cache, image, 2), number(cache, image + 2, 2));
         words[2 * i] = (index * 65_536 + flags) as u32;
         words[2 * i + 1] = number(cache, image + 4, 4) as u32;
     }
-    answer(0, record)
+    answer(0, found.record)
 }
 
 pub fn directory(cache: &[u8], index: usize) -> Directory {

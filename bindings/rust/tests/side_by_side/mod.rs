@@ -3,7 +3,7 @@
 //! same in their own words.
 
 use crate::reader;
-use icon_cache::{raw, Checked, Found, Image, Record, Refusal};
+use icon_cache::{raw, Checked, Found, Image, Picked, Record, Refusal};
 use std::fmt::{self, Debug};
 
 /// Words beyond the room on either side, which no call may touch.
@@ -130,6 +130,48 @@ impl<'a> Pair<'a> {
         let call = || format!("safe {}", call());
         self.agree(call, safe, self.handed_back(&reader))?;
         Ok(reader)
+    }
+
+    /// Picks with these words lent. Not every test asks.
+    #[allow(dead_code)]
+    pub fn pick(
+        &self,
+        name: &[u8],
+        size: u32,
+        scale: u32,
+        directories: &[u32],
+    ) -> Result<reader::Pick, Difference> {
+        let lent = directories.to_vec();
+        let answer = raw::pick(self.lent, name, size, scale, &lent);
+        let reader = reader::pick(&self.copy, name, size, scale, directories);
+        let call = || format!("pick {name:02x?}, size {size}, scale {scale}, {directories:?}");
+        let expected = raw::Pick {
+            number: reader.number,
+            place: reader.place,
+        };
+        self.agree(call, answer, expected)?;
+        let safe = icon_cache::pick(self.lent, name, size, scale, &lent);
+        let call = || format!("safe {}", call());
+        self.agree(call, safe, self.picked(&reader))?;
+        self.agree(|| format!("words after {}", call()), &*lent, directories)?;
+        Ok(reader)
+    }
+
+    /// What the safe pick has to give.
+    fn picked(&self, answer: &reader::Pick) -> Result<Option<Picked>, Refusal> {
+        refused(answer.number, answer.place, 0)?;
+        if answer.place == 0 {
+            return Ok(None);
+        }
+        let (directory, flags, data_offset) = reader::image(&self.copy, answer.place);
+        Ok(Some(Picked {
+            place: answer.place,
+            image: Image {
+                directory,
+                flags,
+                data_offset,
+            },
+        }))
     }
 
     /// What the iterator over records has to give.
