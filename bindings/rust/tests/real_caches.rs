@@ -1,5 +1,5 @@
-//! Caches of real icon themes: the check, each record, each name and each
-//! directory.
+//! Caches of real icon themes: the check, each record, each name, picks of it, and
+//! each directory.
 //!
 //! Their sizes are known, so that a walk over fewer icons does not pass.
 
@@ -40,8 +40,10 @@ fn walk(cache: &[u8], icons: usize, directories: usize) {
     let names = reader::names(cache);
     assert_eq!(names.len(), icons);
     list(&pair, cache, &names);
+    let words = words(directories);
     for name in names {
         ask_name(&pair, name);
+        ask_picks(&pair, name, &words);
     }
     let (listed, buckets) = reader::sizes(cache).unwrap();
     assert_eq!(listed, directories);
@@ -88,6 +90,23 @@ fn ask_name(pair: &Pair, name: &[u8]) {
     // The name with a byte more is another one.
     let longer = [name, b"~"].concat();
     assert_eq!(pair.lookup(&longer, need).unwrap().0.number, 30);
+}
+
+/// Words that differ from directory to directory, of each type.
+fn words(directories: usize) -> Vec<u32> {
+    let words = (0..directories as u32).flat_map(|index| {
+        let size = 16 * (1 + index % 4);
+        [index % 3, size, 1 + index % 2, size, 2 * size, 8]
+    });
+    words.collect()
+}
+
+fn ask_picks(pair: &Pair, name: &[u8], words: &[u32]) {
+    for (size, scale) in [(16, 1), (24, 1), (40, 2), (64, 2), (200, 1), (48, 3)] {
+        assert_eq!(pair.pick(name, size, scale, words).unwrap().number, 0);
+    }
+    let too_few = &words[..words.len() - 6];
+    assert_eq!(pair.pick(name, 16, 1, too_few).unwrap().number, 31);
 }
 
 fn ask_directory(pair: &Pair, cache: &[u8], index: usize) {
