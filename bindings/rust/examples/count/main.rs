@@ -1,5 +1,5 @@
-//! Counts the machine instructions of the check, the lookup and the listing, by
-//! valgrind's tool callgrind:
+//! Counts the machine instructions of the check, the lookup, the listing and the
+//! pick, by valgrind's tool callgrind:
 //!
 //! `cargo run --offline --release --example count`
 //!
