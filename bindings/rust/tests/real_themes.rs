@@ -29,7 +29,8 @@ fn installed() -> Vec<Installed> {
     themes
 }
 
-/// A theme of nothing but cursors lists no directories, and GTK doesn't load it.
+/// A theme of nothing but cursors lists no directories, and GTK doesn't load it. Some
+/// themes have numbers such as `12px`; GTK takes those for 0.
 #[test]
 fn each_index_theme_is_read() {
     for Installed { folder, text } in installed() {
@@ -37,7 +38,8 @@ fn each_index_theme_is_read() {
             Ok(_) => println!("{} is read", folder.display()),
             Err(error) => {
                 println!("{}: {error}", folder.display());
-                assert_eq!(error.fault, ThemeFault::NoDirectories);
+                let known = [ThemeFault::NoDirectories, ThemeFault::BadNumber];
+                assert!(known.contains(&error.fault));
             }
         }
     }
