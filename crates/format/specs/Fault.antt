@@ -24,7 +24,8 @@ infixr 20 _orElse_
 unfoldable pub _orElse_ : Fault → Fault → Fault
 _orElse_ v w = ifKept v w v
 
--- the first broken rule among n things, judged one after the other from p on, d apart
+-- the first broken rule among n things that are judged one after the other: the first stands at p,
+-- each of the others a step further
 unfoldable pub firstFault : (ℕ → Fault) → ℕ → ℕ → ℕ → Fault
-firstFault judge d zero p = noFault
-firstFault judge d (suc n) p = judge p orElse firstFault judge d n (p + d)
+firstFault judge step zero p = noFault
+firstFault judge step (suc n) p = judge p orElse firstFault judge step n (p + step)

@@ -2,6 +2,7 @@
 -- demand 3. A reader of the contracts need not read what stands here.
 
 -- of each definition by itself
+pub mod First
 pub mod Faults
 pub mod Numbers
 pub mod Reads
@@ -29,4 +30,5 @@ pub mod Verdict
 pub mod Search
 pub mod Lookup
 pub mod LookupAnswers
+pub mod LookupNumbers
 pub mod Demand

@@ -16,13 +16,13 @@ use Rattle.format.specs.declared.Fault.{Fault}
 use Rattle.pick.specs.declared.Sizes.{Sizes}
 use Rattle.pick.specs.declared.PickAnswer.{PickAnswer}
 
--- the types of directories
+-- the types of directories, by their names in source document 002
 pub data Kind : Type 0 where
   fixed : Kind
   scalable : Kind
   threshold : Kind
 
--- the type that a word names; one above 2 names none, and is refused before its size is asked for
+-- the type that a word names; one above 2 names none, and is refused before a size is compared
 abbrev pub kind : ℕ → Kind
 kind zero = fixed
 kind (suc zero) = scalable
@@ -58,6 +58,7 @@ servesSize fixed d size = eqb size (d .size)
 servesSize scalable d size = leb (d .min) size && leb size (d .max)
 servesSize threshold d size = leb (distance size (d .size)) (d .threshold)
 
+-- the same with the scale
 unfoldable pub serves : Sizes → ℕ → ℕ → Bool
 serves d size scale = eqb (d .scale) scale && servesSize (kind (d .kind)) d size
 
@@ -84,6 +85,7 @@ kindsFault n w = firstFault (kindFault w) wordsEach n 0
 unfoldable pub wordsFault : List ℕ → List ℕ → Fault
 wordsFault s w = unless (eqb (length w) (wordsEach * directories s)) 31 0 orElse kindsFault (directories s) w
 
+-- the answer: number n at p
 abbrev pub pickIs : ℕ → ℕ → PickAnswer
 pickIs n p = record { number = n; place = p }
 

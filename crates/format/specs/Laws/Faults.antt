@@ -4,11 +4,11 @@ use Prim.Native.Nat.{ℕ, zero, suc, _+_, _-_, _*_, _<_}
 use mathlib.Core.Path.{_≡_, refl, ap, _∙_}
 use mathlib.Core.Bool.{Bool, true, false}
 use native.Mathlib.Decide.{ℕ-discrete}
-use native.Mathlib.Nat.{add-zero, mul-zero, mul-suc}
 use native.Mathlib.Numerals.{add-one}
 use native.Mathlib.Omega.{arith}
 use Rattle.format.specs.Fault.{fault, noFault, unless, _orElse_, ifKept, firstFault}
 use Rattle.format.specs.declared.Fault.{Fault}
+use Rattle.format.specs.Laws.First.{at-first, at-later}
 
 pub same-number : {x y : Fault} → x ≡ y → x .number ≡ y .number
 same-number e = ap (λ (f : Fault). f .number) e
@@ -50,38 +50,43 @@ unfolding _orElse_
 kept-passes b n p y e = rw e
 
 -- n things judged one after the other: none is left, the first breaks a rule, or it keeps them
-module _ (judge : ℕ → Fault) (d p n : ℕ) where
-  pub first-end : n ≡ 0 → firstFault judge d n p ≡ noFault
+module _ (judge : ℕ → Fault) (step p n : ℕ) where
+  pub first-end : n ≡ 0 → firstFault judge step n p ≡ noFault
   unfolding firstFault
   first-end e = rw e
 
-  pub first-stop : 0 < n → (judge p .number ≡ 0 → ⊥) → firstFault judge d n p ≡ judge p
+  pub first-stop : 0 < n → (judge p .number ≡ 0 → ⊥) → firstFault judge step n p ≡ judge p
   unfolding firstFault
   first-stop some broken = let more : n ≡ suc (n - 1) = omega arith in rw more (orElse-first _ _ broken)
 
-  pub first-go-on : (m : ℕ) → n ≡ m + 1 → judge p .number ≡ 0 → firstFault judge d n p ≡ firstFault judge d m (p + d)
+  pub first-go-on : (m : ℕ) → n ≡ m + 1 → judge p .number ≡ 0 → firstFault judge step n p ≡ firstFault judge step m (p + step)
   unfolding firstFault
   first-go-on m e kept = rw (e, add-one m) (orElse-next _ _ kept)
 
   -- where no rule is broken, none is by the first
-  pub first-none : (m : ℕ) → n ≡ m + 1 → firstFault judge d n p .number ≡ 0 → (judge p .number ≡ 0) × (firstFault judge d m (p + d) .number ≡ 0)
+  pub first-none : (m : ℕ) → n ≡ m + 1 → firstFault judge step n p .number ≡ 0 → (judge p .number ≡ 0) × (firstFault judge step m (p + step) .number ≡ 0)
   unfolding firstFault
   first-none m e none = orElse-none _ _ (rw (e, add-one m) at none)
 
--- thing i is the first that breaks a rule; none does
-module _ (judge : ℕ → Fault) (d : ℕ) where
-  pub first-at : (n p i : ℕ) → i < n → (judge (p + d * i) .number ≡ 0 → ⊥) → ((j : ℕ) → j < i → judge (p + d * j) .number ≡ 0)
-      → firstFault judge d n p ≡ judge (p + d * i)
-  first-at n p zero below broken before = rw (mul-zero, add-zero) (first-stop judge d p n below (rw (mul-zero, add-zero) at broken))
+-- the same by the number of a thing
+module _ (judge : ℕ → Fault) (step : ℕ) where
+  -- thing i is the first that breaks a rule
+  pub first-at : (n p i : ℕ) → i < n → (judge (p + step * i) .number ≡ 0 → ⊥) → ((j : ℕ) → j < i → judge (p + step * j) .number ≡ 0)
+      → firstFault judge step n p ≡ judge (p + step * i)
+  first-at n p zero below broken before = rw (at-first p step) (first-stop judge step p n below (rw (at-first p step) at broken))
   first-at n p (suc i) below broken before =
-      let first = rw (mul-zero, add-zero) at (before 0 (omega arith)) in
-      let later : (j : ℕ) → p + d * suc j ≡ p + d + d * j = λ j. rw mul-suc (omega arith) in
-      first-go-on judge d p n (n - 1) (omega arith) first
-      ∙ rw (later i) (first-at (n - 1) (p + d) i (omega arith) (rw (← (later i)) broken) (λ j l. rw (← (later j)) (before (suc j) (omega arith))))
+      first-go-on judge step p n (n - 1) (omega arith) (rw (at-first p step) at (before 0 (omega arith)))
+      ∙ rw (at-later p step i)
+      (first-at (n - 1) (p + step) i (omega arith) (rw (← (at-later p step i)) broken) (λ j l. rw (← (at-later p step j)) (before (suc j) (omega arith))))
 
-  pub first-kept : (n p : ℕ) → ((j : ℕ) → j < n → judge (p + d * j) .number ≡ 0) → firstFault judge d n p .number ≡ 0
-  first-kept zero p kept = ap (λ (v : Fault). v .number) (first-end judge d p 0 refl)
+  -- each keeps them
+  pub first-kept : (n p : ℕ) → ((j : ℕ) → j < n → judge (p + step * j) .number ≡ 0) → firstFault judge step n p .number ≡ 0
+  first-kept zero p kept = same-number (first-end judge step p 0 refl)
   first-kept (suc n) p kept =
-      let first = rw (mul-zero, add-zero) at (kept 0 (omega arith)) in
-      let later : (j : ℕ) → p + d * suc j ≡ p + d + d * j = λ j. rw mul-suc (omega arith) in
-      rw (first-go-on judge d p (suc n) n (omega arith) first) (first-kept n (p + d) (λ j l. rw (← (later j)) (kept (suc j) (omega arith))))
+      rw (first-go-on judge step p (suc n) n (omega arith) (rw (at-first p step) at (kept 0 (omega arith))))
+      (first-kept n (p + step) (λ j l. rw (← (at-later p step j)) (kept (suc j) (omega arith))))
+
+  pub kept-each : (n p j : ℕ) → j < n → firstFault judge step n p .number ≡ 0 → judge (p + step * j) .number ≡ 0
+  kept-each n p zero l none = rw (at-first p step) (first-none judge step p n (n - 1) (omega arith) none .0)
+  kept-each n p (suc j) l none =
+      rw (at-later p step j) (kept-each (n - 1) (p + step) j (omega arith) (first-none judge step p n (n - 1) (omega arith) none .1))

@@ -1,9 +1,9 @@
 -- What a lookup answers, from what the chain of the name's bucket is like: one law for each of the
 -- four ways.
-use Prim.Native.Nat.{ℕ, zero, suc, _+_, _-_, _≤_, _<_}
+use Prim.Native.Nat.{ℕ, suc, _+_, _-_, _≤_, _<_}
 use mathlib.Core.Path.{_≡_, refl, sym, ap, _∙_}
 use mathlib.Core.Logic.{_↔_}
-use mathlib.Core.List.{List, _∷_, _++_}
+use mathlib.Core.List.{List}
 use native.Mathlib.Omega.{arith}
 use lib.ListN.{length}
 use Rattle.format.specs.Header.{bucketField}
@@ -15,21 +15,17 @@ use Rattle.format.specs.Words.{link, Keeps, KeepsAt, KeepsBelow, NoneBel
 use Rattle.format.specs.Demand.{WalkAnswers, LookupAnswers}
 use Rattle.format.specs.declared.Found.{Found}
 use Rattle.format.specs.declared.LookupAnswer.{LookupAnswer}
-use Rattle.format.specs.Laws.Numbers.{OneOf, headerNumbers, linkNumbers, never, widened}
+use Rattle.format.specs.Laws.Numbers.{never}
 use Rattle.format.specs.Laws.Links.{earlier, once, round, broken-number, keeps-le, before-end, unbroken}
 use Rattle.format.specs.Laws.Apart.{apart-none, repeats}
 use Rattle.format.specs.Laws.Search.{search-absent, search-finds, search-breaks, search-lasts, within, Sought, absent, met, broken, lasts, sought}
-use Rattle.format.specs.Laws.Lookup.{query-long, query-number, find-refuses, find-searches, found-asked, found-either, lookup-found, lookup-unfound}
+use Rattle.format.specs.Laws.Lookup.{query-long, find-refuses, find-searches, found-asked, found-either, lookup-found, lookup-unfound}
 use Rattle.format.specs.Laws.Verdict.{turns, turns-keep}
 
 -- the answer to a lookup in a chain of n records that holds
 pub record InChain (s name : List ℕ) (k n : ℕ) (a : LookupAnswer) : Type 0 where
   pub opens : a .opened ≤ n
   pub absent : (a .number ≡ 30) ↔ NoneBelow s name k n
-
--- a lookup's numbers; so it never answers 6 or 16
-abbrev pub lookupNumbers : List ℕ
-lookupNumbers = 30 ∷ 12 ∷ 13 ∷ 14 ∷ headerNumbers ++ linkNumbers
 
 number : {a b : Found} → a ≡ b → a .number ≡ b .number
 number e = ap (λ (a : Found). a .number) e
@@ -93,14 +89,6 @@ module _ (s name : List ℕ) (asks : queryFault s name .number ≡ 0) where
       );
     }
 
-    search-number : Sought s name bucket → OneOf lookupNumbers (lookup s name room .number)
-    search-number (absent {n = n} h none) = rw (says-absent n h none) (record { one = refl })
-    search-number (met {n = n} keeps none here same) =
-        rw (says-found n keeps none here same)
-        (found-either s room _ _ (λ a. OneOf lookupNumbers (a .number)) (record { one = refl }) (record { one = refl }))
-    search-number (broken {n = n} {x = x} {p = p} b none) = rw (says-broken n x p b none) (widened refl (broken-number b))
-    search-number (lasts keeps none) = rw (says-endless keeps none) (record { one = refl })
-
     -- in a chain that holds
     module _ {n : ℕ} (h : Holds s bucket n) where
       there : {m : ℕ} → m < n → nameOf s (link s bucket m) ≡ name → (a : LookupAnswer) → a .opened ≡ m + 1 → (a .number ≡ 30 → ⊥) → InChain s name bucket n a
@@ -125,11 +113,3 @@ lookup-answers s name room = record {
   refuses-query = λ x p e. lookup-unfound s name room (find-refuses s name e (λ z. omega arith)) (λ z. omega arith);
   walks = λ asks. walk-answers s name asks room;
 }
-
-pub lookup-number : (s name : List ℕ) (room : ℕ) → OneOf lookupNumbers (lookup s name room .number)
-lookup-number s name room = go (queryFault s name .number) refl
-  where
-    go : (n : ℕ) → queryFault s name .number ≡ n → OneOf lookupNumbers (lookup s name room .number)
-    go zero e = search-number s name e room (sought s name (bucketOf s name))
-    go (suc n) e =
-        rw (lookup-unfound s name room (find-refuses s name refl (λ z. omega arith)) (λ z. omega arith)) (widened refl (query-number s name))

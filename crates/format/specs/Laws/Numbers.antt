@@ -43,10 +43,10 @@ module _ {ns : List ℕ} where
   pub orElse-one : (x y : Fault) → OneOf ns (x .number) → OneOf ns (y .number) → OneOf ns ((x orElse y) .number)
   orElse-one x y h g = elim (ℕ-discrete (x .number) 0) [ yes kept ↦ rw (orElse-next x y kept) g | no broken ↦ rw (orElse-first x y broken) h ]
 
-  pub first-one : (judge : ℕ → Fault) (d n p : ℕ) → ((q : ℕ) → OneOf ns (judge q .number)) → OneOf ns (firstFault judge d n p .number)
+  pub first-one : (judge : ℕ → Fault) (step n p : ℕ) → ((q : ℕ) → OneOf ns (judge q .number)) → OneOf ns (firstFault judge step n p .number)
   unfolding firstFault
-  first-one judge d zero p each = record { one = refl }
-  first-one judge d (suc n) p each = orElse-one _ _ (each p) (first-one judge d n (p + d) each)
+  first-one judge step zero p each = record { one = refl }
+  first-one judge step (suc n) p each = orElse-one _ _ (each p) (first-one judge step n (p + step) each)
 
 -- more numbers
 abbrev pub includes : List ℕ → List ℕ → Bool

@@ -1,7 +1,7 @@
--- Of the lent words, and of the answer by what is judged first.
+-- Of the lent words, of the answer by what is judged first, and its numbers.
 use Prim.Native.Nat.{ℕ, _+_, _*_}
-use mathlib.Core.Path.{_≡_, ap}
-use mathlib.Core.List.{List}
+use mathlib.Core.Path.{_≡_, refl, ap}
+use mathlib.Core.List.{List, [], _∷_}
 use borrow.Author.Tests.{eq-eqb, ne-eqb, eqb-true}
 use lib.ListN.{length}
 use Rattle.format.specs.Fault.{fault}
@@ -10,6 +10,8 @@ use Rattle.format.specs.Record.{imagesAt, images}
 use Rattle.format.specs.Call.{find}
 use Rattle.format.specs.declared.Found.{Found}
 use Rattle.format.specs.Laws.Faults.{broken-takes, orElse-first, orElse-next, orElse-none, unless-none, broken-speaks, kept-passes}
+use Rattle.format.specs.Laws.Numbers.{OneOf, unless-one, orElse-one, first-one, widened}
+use Rattle.format.specs.Laws.LookupNumbers.{findNumbers, find-number}
 use Rattle.pick.specs.Pick.{fits, firstImage, kindsFault, wordsFault, pickIs, pick}
 
 -- the lent words: too few or too many, or six for each directory
@@ -47,3 +49,15 @@ module _ (s name : List ℕ) (size scale : ℕ) (w : List ℕ) {a : Found} (e : 
     pick-first none =
         let next = orElse-next (fault (a .number) (a .place)) (wordsFault s w) found in
         rw (e, next, none)
+
+-- so it never answers 6, 14 or 16
+abbrev pub pickNumbers : List ℕ
+pickNumbers = 31 ∷ 32 ∷ findNumbers
+
+words-number : (s w : List ℕ) → OneOf (31 ∷ 32 ∷ []) (wordsFault s w .number)
+unfolding wordsFault
+words-number s w = search (orElse-one, unless-one, first-one)
+
+pub pick-number : (s name : List ℕ) (size scale : ℕ) (w : List ℕ) → OneOf pickNumbers (pick s name size scale w .number)
+unfolding pick
+pick-number s name size scale w = orElse-one _ _ (widened refl (find-number s name)) (widened refl (words-number s w))

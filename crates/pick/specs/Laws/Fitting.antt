@@ -3,13 +3,13 @@ use Prim.Native.Nat.{ℕ, zero, suc, _+_, _-_, _*_, _<_}
 use mathlib.Core.Path.{_≡_, refl, sym, _∙_}
 use mathlib.Core.List.{List}
 use mathlib.Core.Bool.{Bool, true, false}
-use native.Mathlib.Nat.{add-zero, mul-zero}
 use native.Mathlib.Numerals.{add-one}
 use native.Mathlib.Omega.{arith}
 use borrow.Author.Tests.{ne-eqb, eqb-true, ltb-true}
 use lib.Dec.{eqb}
 use Rattle.format.specs.Number.{be}
 use Rattle.format.specs.Record.{validIndex}
+use Rattle.format.specs.Laws.First.{at-first, at-later}
 use Rattle.pick.specs.Pick.{sizesOf, serves, fits, firstImage}
 
 -- an index that keeps rule 11 names a directory, or is 0xFFFF
@@ -45,22 +45,19 @@ module _ (test : ℕ → Bool) (p n : ℕ) where
   image-later m more e = rw (more, add-one m, e)
 
 module _ (test : ℕ → Bool) where
-  later : (p j : ℕ) → p + 8 * suc j ≡ p + 8 + 8 * j
-  later p j = omega arith
-
   -- image i of n images from p on is the first that passes
   pub image-at : (n p i : ℕ) → i < n → test (p + 8 * i) ≡ true → ((j : ℕ) → j < i → test (p + 8 * j) ≡ false) → firstImage test n p ≡ p + 8 * i
-  image-at n p zero below here before = rw (mul-zero, add-zero) (image-here test p n below (rw (mul-zero, add-zero) at here))
+  image-at n p zero below here before = rw (at-first p 8) (image-here test p n below (rw (at-first p 8) at here))
   image-at n p (suc i) below here before =
-      image-later test p n (n - 1) (omega arith) (rw (mul-zero, add-zero) at (before 0 (omega arith)))
-      ∙ rw (later p i) (image-at (n - 1) (p + 8) i (omega arith) (rw (← (later p i)) here) (λ j l. rw (← (later p j)) (before (suc j) (omega arith))))
+      image-later test p n (n - 1) (omega arith) (rw (at-first p 8) at (before 0 (omega arith)))
+      ∙ rw (at-later p 8 i) (image-at (n - 1) (p + 8) i (omega arith) (rw (← (at-later p 8 i)) here) (λ j l. rw (← (at-later p 8 j)) (before (suc j) (omega arith))))
 
   -- none passes
   pub image-nowhere : (n p : ℕ) → ((j : ℕ) → j < n → test (p + 8 * j) ≡ false) → firstImage test n p ≡ 0
   image-nowhere zero p none = image-none test p 0 refl
   image-nowhere (suc n) p none =
-      image-later test p (suc n) n (omega arith) (rw (mul-zero, add-zero) at (none 0 (omega arith)))
-      ∙ image-nowhere n (p + 8) (λ j l. rw (← (later p j)) (none (suc j) (omega arith)))
+      image-later test p (suc n) n (omega arith) (rw (at-first p 8) at (none 0 (omega arith)))
+      ∙ image-nowhere n (p + 8) (λ j l. rw (← (at-later p 8 j)) (none (suc j) (omega arith)))
 
   -- an image does not stand at 0, so 0 says that the first does not pass, and none does
   first-fails : (n p : ℕ) → 0 < p → firstImage test (suc n) p ≡ 0 → test p ≡ false
@@ -72,7 +69,7 @@ module _ (test : ℕ → Bool) where
 
   pub nowhere-image : (n p : ℕ) → 0 < p → firstImage test n p ≡ 0 → (j : ℕ) → j < n → test (p + 8 * j) ≡ false
   nowhere-image zero p some e j l = absurd (omega arith)
-  nowhere-image (suc n) p some e zero l = rw (mul-zero, add-zero) (first-fails n p some e)
+  nowhere-image (suc n) p some e zero l = rw (at-first p 8) (first-fails n p some e)
   nowhere-image (suc n) p some e (suc j) l =
       let rest = sym (image-later test p (suc n) n (omega arith) (first-fails n p some e)) ∙ e in
-      rw (later p j) (nowhere-image n (p + 8) (omega arith) rest j (omega arith))
+      rw (at-later p 8 j) (nowhere-image n (p + 8) (omega arith) rest j (omega arith))
