@@ -1,16 +1,19 @@
 // Picks. The words lent for the directories stand in the buffer, from 1,024 on.
+ghost use Prim.Native.Nat.{_<_};
 use crate::answers;
 use crate::script;
 use crate::script::Words;
 use std::num::wrapping_add_usize;
 
-// The two bytes at `at`, and the four.
-fn half(buffer: &[u8], at: usize) -> u32 {
+// The number that the two bytes at `at` write, and that of four.
+fn half(buffer: &[u8], at: usize) -> u32
+    ensures { λ r. ⌜ r < 65536 ⌝ }
+{
     script::byte(buffer, at) as u32 * 256 + script::byte(buffer, wrapping_add_usize(at, 1)) as u32
 }
 
 fn word(buffer: &[u8], at: usize) -> u32 {
-    half(buffer, at) % 65536 * 65536 + half(buffer, wrapping_add_usize(at, 2)) % 65536
+    half(buffer, at) * 65536 + half(buffer, wrapping_add_usize(at, 2))
 }
 
 fn read(buffer: &[u8], words: &mut [u32]) {
