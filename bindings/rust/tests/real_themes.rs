@@ -3,7 +3,7 @@
 //!
 //! The environment variable ICON_CACHE_THEMES names another folder of themes.
 
-use icon_cache::{directory, lookup, pick, records, Picked, Theme, ThemeFault};
+use icon_cache::{directory, lookup, pick, records, Picked, Theme, ThemeError, ThemeFault};
 use std::collections::{HashMap, HashSet};
 use std::path::PathBuf;
 use std::{env, fs, str};
@@ -30,7 +30,7 @@ fn installed() -> Vec<Installed> {
 }
 
 /// A theme of nothing but cursors lists no directories, and GTK doesn't load it. Some
-/// themes have numbers such as `12px`; GTK takes those for 0.
+/// themes have numbers such as `12px`; GTK reads a MinSize of `12px` as 0.
 #[test]
 fn each_index_theme_is_read() {
     for Installed { folder, text } in installed() {
@@ -38,23 +38,54 @@ fn each_index_theme_is_read() {
             Ok(_) => println!("{} is read", folder.display()),
             Err(error) => {
                 println!("{}: {error}", folder.display());
-                let known = [ThemeFault::NoDirectories, ThemeFault::BadNumber];
-                assert!(known.contains(&error.fault));
+                let text = str::from_utf8(&text).expect("themes are UTF-8");
+                assert!(has_fault(text, &error), "the file doesn't have this fault");
             }
         }
     }
 }
 
+/// Whether the lines of the file say so too, for the faults that themes have.
+fn has_fault(text: &str, error: &ThemeError) -> bool {
+    match error.fault {
+        ThemeFault::NoDirectories => !text.lines().any(lists_directories),
+        ThemeFault::BadNumber => {
+            let line = text.lines().nth(error.line - 1);
+            let value = line.and_then(|line| line.split_once('='));
+            value.is_some_and(|(_, value)| !is_number(value.trim()))
+        }
+        _ => false,
+    }
+}
+
+fn lists_directories(line: &str) -> bool {
+    let rest = line.trim().strip_prefix("Directories");
+    rest.is_some_and(|rest| rest.trim_start().starts_with('='))
+}
+
+fn is_number(value: &str) -> bool {
+    value.bytes().all(|byte| byte.is_ascii_digit()) && value.parse::<u32>().is_ok()
+}
+
 #[test]
 fn picks_from_each_cache() {
-    for Installed { folder, text } in installed() {
-        let cache = fs::read(folder.join("icon-theme.cache"));
-        if let (Ok(cache), Ok(theme)) = (cache, Theme::parse(&text)) {
-            let text = str::from_utf8(&text).expect("the theme is read");
-            let picked = compare_picks(&cache, &theme, &Description::of(text));
-            println!("{}: {picked} images are picked", folder.display());
-        }
+    let picked: Vec<usize> = installed().iter().filter_map(picks_of).collect();
+    if picked.is_empty() {
+        println!("no theme with a cache is read: no picks are tested");
+        return;
     }
+    assert!(picked.iter().any(|&picked| picked > 0));
+}
+
+/// The number of images picked from a theme that has a cache and is read.
+fn picks_of(theme: &Installed) -> Option<usize> {
+    let Installed { folder, text } = theme;
+    let cache = fs::read(folder.join("icon-theme.cache")).ok()?;
+    let theme = Theme::parse(text).ok()?;
+    let text = str::from_utf8(text).expect("the theme is read");
+    let picked = compare_picks(&cache, &theme, &Description::of(text));
+    println!("{}: {picked} images are picked", folder.display());
+    Some(picked)
 }
 
 /// Picks each icon for some sizes and scales, and gives the number of images picked.
