@@ -8,6 +8,7 @@ mod side_by_side;
 
 use icon_cache::{Refusal, FARM_CACHE};
 use side_by_side::Pair;
+use std::ops::Range;
 
 /// The images of cow, in the directories 0 and 1, and the one of oat, in 0.
 const COW_0: usize = 80;
@@ -277,16 +278,17 @@ fn an_image_without_a_directory_never_fits() {
     }
 }
 
-/// A cache of so many directories whose one icon, "n", has an image in each, in
-/// order. The first of them stands behind the count at 40 + 4 * count.
-fn with_directories(count: u32) -> Vec<u8> {
+/// A cache of so many directories whose one icon, "n", has an image in each of those
+/// named, in order. The first image stands behind the number of them, which is at
+/// 40 + 4 * count.
+fn with_directories(count: u32, named: Range<u32>) -> Vec<u8> {
     let strings = u32::from_be_bytes(*b"n\0d\0");
     let images = 40 + 4 * count;
     let mut fields = vec![0x0001_0000, 16, 36, strings];
     fields.extend([1, 24, 0xFFFF_FFFF, 12, images, count]);
     fields.extend(vec![14; count as usize]);
-    fields.push(count);
-    fields.extend((0..count).flat_map(|index| [index << 16, 7]));
+    fields.push(named.len() as u32);
+    fields.extend(named.flat_map(|index| [index << 16, 7]));
     let bytes = fields.iter().flat_map(|field| field.to_be_bytes());
     bytes.collect()
 }
@@ -295,7 +297,7 @@ fn with_directories(count: u32) -> Vec<u8> {
 #[test]
 fn the_last_of_many_images() {
     let count = 1_024;
-    let cache = with_directories(count);
+    let cache = with_directories(count, 0..count);
     let place = |image: usize| 44 + 4 * count as usize + 8 * image;
 
     let mut directories = vec![NEVER; count as usize];
@@ -308,6 +310,29 @@ fn the_last_of_many_images() {
     directories[last][0] = 3;
     let answer = pick(&cache, "n", 48, 1, directories.as_flattened());
     assert_eq!(answer, (32, 6 * last));
+}
+
+/// As many as a cache may have. Only the last of them has an image.
+#[test]
+fn the_last_of_many_directories() {
+    let cache = with_directories(65_535, 0xFFFE..0xFFFF);
+    let image = 44 + 4 * 65_535;
+    let last = 0xFFFE;
+    let pick = |directories: &[Words]| pick(&cache, "n", 48, 1, directories.as_flattened());
+
+    let mut directories = vec![fixed(48); 65_535];
+    directories[last] = NEVER;
+    assert_eq!(pick(&directories), (0, 0));
+    directories.fill(NEVER);
+    directories[last] = fixed(48);
+    assert_eq!(pick(&directories), (0, image));
+    directories[last][0] = 3;
+    assert_eq!(pick(&directories), (32, 393_204));
+
+    // One directory fewer, and one more.
+    assert_eq!(pick(&directories[..last]), (31, 0));
+    directories.push(NEVER);
+    assert_eq!(pick(&directories), (31, 0));
 }
 
 /// The numbers that callers tell apart, by their names.
