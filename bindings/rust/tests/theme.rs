@@ -273,7 +273,7 @@ fn not_utf_8() {
 #[test]
 fn lines_of_no_kind() {
     for line in [
-        "Size", "=48", " = 48", "; 48", "[]", "[16]x", "[16] # x", "[16]]",
+        "Size", "=48", " = 48", "; 48", "[]", "[/]", "[//]", "[16]x", "[16] # x", "[16]]",
     ] {
         let text = theme_with(&format!("Size=48\n{line}\n"));
         demand_refused(text.as_bytes(), 5, ThemeFault::UnknownLine);

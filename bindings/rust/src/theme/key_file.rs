@@ -96,10 +96,11 @@ impl<'a> Line<'a> {
 
     /// What follows on the bracket. A slash at the end of the name doesn't count.
     fn group(rest: &'a str) -> Result<Self, ThemeFault> {
-        match rest.split_once(']') {
-            None => Err(ThemeFault::UnclosedGroup),
-            Some((name, "")) if !name.is_empty() => Ok(Line::Group(name.trim_end_matches('/'))),
-            Some(_) => Err(ThemeFault::UnknownLine),
+        let (name, after) = rest.split_once(']').ok_or(ThemeFault::UnclosedGroup)?;
+        let name = name.trim_end_matches('/');
+        if name.is_empty() || !after.is_empty() {
+            return Err(ThemeFault::UnknownLine);
         }
+        Ok(Line::Group(name))
     }
 }
