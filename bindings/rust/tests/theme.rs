@@ -378,7 +378,11 @@ fn sentences() {
             "line 5: the name of this group has no closing bracket",
         ),
         ("a=b", "line 1: this key stands before the first group"),
-        ("\n[a]", "line 2: the first group is not [Icon Theme]"),
+        ("", "line 1: there is no group [Icon Theme] at the front"),
+        (
+            "\n[a]",
+            "line 2: there is no group [Icon Theme] at the front",
+        ),
         ("\n[Icon Theme]\n", "line 2: this group has no Directories"),
         (
             "[Icon Theme]\nDirectories=16\n[16]\n",

@@ -52,7 +52,7 @@ impl fmt::Display for ThemeFault {
             ThemeFault::UnknownLine => "this line is no group, no comment and no key with a value",
             ThemeFault::UnclosedGroup => "the name of this group has no closing bracket",
             ThemeFault::KeyBeforeGroup => "this key stands before the first group",
-            ThemeFault::OtherFirstGroup => "the first group is not [Icon Theme]",
+            ThemeFault::OtherFirstGroup => "there is no group [Icon Theme] at the front",
             ThemeFault::NoDirectories => "this group has no Directories",
             ThemeFault::NoSize => "the group of this directory has no Size",
             ThemeFault::BadNumber => "this value is not a number from 0 to 4294967295",
