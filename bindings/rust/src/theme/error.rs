@@ -20,6 +20,7 @@ pub struct ThemeError {
 
 /// What can be wrong with an `index.theme`.
 #[derive(Clone, Copy, Debug, PartialEq, Eq, Hash)]
+#[non_exhaustive]
 pub enum ThemeFault {
     /// The line is not UTF-8.
     NotUtf8,
