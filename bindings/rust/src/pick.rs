@@ -30,7 +30,7 @@ pub struct Picked {
 /// An image without a directory never fits. What [`lookup`](crate::lookup) refuses
 /// is refused alike, at the same places. After it comes
 /// [`WRONG_WORD_COUNT`](Refusal::WRONG_WORD_COUNT), and then
-/// [`BAD_TYPE`](Refusal::BAD_TYPE), be it of a directory that no image names. Paths
+/// [`BAD_TYPE`](Refusal::BAD_TYPE), also of a directory that no image names. Paths
 /// are not judged, and an endless chain costs as much as it costs a lookup.
 ///
 /// ```

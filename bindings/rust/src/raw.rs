@@ -100,7 +100,8 @@ pub struct Pick {
     /// The answer number, 0 for an image picked and for none that fits.
     pub number: u32,
     /// With 0, the offset of the image picked, or 0 if none fits. With 32, the index
-    /// of the type in the words lent. With any other number the offset of the fault.
+    /// of the type in the words lent. With any other number the offset of the fault,
+    /// or 0 where it has none.
     pub place: usize,
 }
 
