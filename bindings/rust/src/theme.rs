@@ -21,6 +21,10 @@ const ICON_THEME: &str = "Icon Theme";
 /// What a theme's `index.theme` says of its directories: for which sizes and which
 /// scale each is made. [`pick`](crate::pick) takes it as words.
 ///
+/// This reader is plain Rust: it is tested, and not proved as the library is. It
+/// doesn't follow `Inherits`, so icons of other themes are the caller's to look for.
+/// And where no directory fits, `pick` doesn't take the nearest size.
+///
 /// ```
 /// use icon_cache::{pick, Theme, FARM_CACHE};
 ///

@@ -7,11 +7,11 @@ Checks icon theme caches (icon-theme.cache), looks up icons in them, lists what
 they have and picks images for a size.
 
 Usage:
-  icon-cache check FILE...         say whether each cache is sound
-  icon-cache lookup FILE NAME...   show the images of each icon
-  icon-cache dirs FILE             list the directories of a cache
-  icon-cache list FILE             list the icons of a cache, or a page of them
-  icon-cache pick THEME NAME...    pick the image of each icon for a size
+  icon-cache check FILE...                 say whether each cache is sound
+  icon-cache lookup FILE NAME...           show the images of each icon
+  icon-cache dirs FILE                     list the directories of a cache
+  icon-cache list FILE                     list the icons of a cache, or a page
+  icon-cache pick THEME NAME... --size N   pick each icon's image for a size
 
 A directory as FILE stands for the icon-theme.cache in it, and - for standard
 input. THEME is the folder of a theme. After -- no argument is taken for an
@@ -118,7 +118,9 @@ fits if its scale is the one asked for and, by its type,
   Scalable    the size asked for is MinSize at least and MaxSize at most
   Threshold   the size asked for and its size are at most Threshold apart
 
-A directory that the index.theme doesn't list and describe never fits.
+A directory that the index.theme doesn't list and describe never fits. Nothing
+is picked from the themes that Inherits names, and where no directory fits, the
+nearest size is not taken.
 
 A NAME is that of the icon, without directory and suffix: folder-open. Names
 that begin with - are given after --.
