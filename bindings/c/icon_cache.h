@@ -1,8 +1,8 @@
 /*
  * Reading an icon theme cache (icon-theme.cache): C99, usable from C++.
  *
- * Every function takes any bytes in the cache, any name and any number, and
- * returns an answer number:
+ * Every function takes any bytes in the cache, any name, any words and any
+ * number, and returns an answer number:
  *
  *    0  accepted, found, handed back or picked   place: 0, the record found, or
  *                                                       the image picked
@@ -167,10 +167,11 @@ uint32_t icon_cache_flags_out(uint16_t flags, uint32_t numbering, uint16_t *raw)
  *    2  Threshold  `size` and Size are at most Threshold apart. Nothing wraps:
  *                  with 0xFFFFFFFF every size fits.
  *
- * With 0, *place is the offset of the image, or 0 if none fits. The big-endian
- * numbers of two bytes at *place and at *place + 2 are the index of the image's
- * directory and its flags. An image without a directory never fits; only a
- * cache that has no directories has such, and `directories_len` is 0 then.
+ * With 0, *place is the offset of the image, or 0 if none fits. The eight bytes
+ * of the image lie inside the cache: two big-endian numbers of two bytes, the
+ * index of its directory, which there is, and its flags, and one of four, the
+ * offset of its data. An image without a directory never fits; only a cache
+ * that has no directories has such, and `directories_len` has to be 0 then.
  *
  * The lookup's refusals come first, with 30 among them and at the same places,
  * but never 14. Then comes 31, unless `directories_len` is six times the number
