@@ -1,4 +1,5 @@
--- What `pick` answers in plain words, for every buffer, name, size, scale and lent words.
+-- What `pick` answers in plain words, for every buffer, name, size, scale and lent words. When an
+-- image fits is said by `fits` and `serves`; one with the index 0xFFFF never does (`fits-nowhere`).
 use Prim.Native.Nat.{ℕ, _+_, _*_, _≤_, _<_}
 use mathlib.Core.Path.{_≡_}
 use mathlib.Core.List.{List}

@@ -1,12 +1,12 @@
 // The image of an icon that serves a screen: a layer above the search for the icon's name. The
 // caller lends six words for each directory of the cache, and the images are read where they stand.
 ghost use mathlib.Core.Path.{_≡_};
-ghost use Prim.Native.Nat.{_+_, _*_, _≤_, _<_};
+ghost use mathlib.Core.Bool.{true};
+ghost use Prim.Native.Nat.{_+_, _*_, _≤_};
 ghost use lib.ListN.{length};
 ghost use Rattle.format.specs.Number.{be};
 ghost use Rattle.format.specs.Header.{headerFault, directories};
 ghost use Rattle.format.specs.Record.{validIndex, imagesFault};
-ghost use mathlib.Core.Bool.{true};
 ghost use Rattle.pick.specs.Pick.{sizesOf, kindsFault, wordsFault, firstImage};
 ghost use Rattle.pick.specs.Pick as definition;
 use bigendian::u16_at;
