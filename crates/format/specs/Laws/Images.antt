@@ -1,4 +1,4 @@
--- Rule 11 on the images of a list, one after the other, and their words.
+-- The words of images, as they are stored and one image after the other.
 use Prim.Native.Nat.{ℕ, _+_, _≤_}
 use mathlib.Core.Path.{_≡_}
 use mathlib.Core.List.{List, [], _∷_, append-assoc}

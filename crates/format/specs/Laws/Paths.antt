@@ -1,4 +1,4 @@
--- Rules 6 and 16 on the paths, one after the other, and the first byte of a string.
+-- Rules 6 and 16 on a path, and the first byte of a string.
 use Prim.Native.Nat.{ℕ, zero, suc}
 use mathlib.Core.Path.{_≡_, refl, _∙_}
 use mathlib.Core.List.{List, [], _∷_}
