@@ -1,4 +1,5 @@
--- Demand 3, and the whole answers of the check and of a lookup in its words (document 01, 'Opened').
+-- Demand 3, and the whole answers of the check and of a lookup in its words (document 01,
+-- 'Opened').
 use Prim.Native.Nat.{ℕ, suc, _+_, _-_, _≤_, _<_}
 use mathlib.Core.Path.{_≡_}
 use mathlib.Core.List.{List}

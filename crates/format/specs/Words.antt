@@ -1,5 +1,5 @@
--- Document 01, 'The words of demand 3': they know nothing of how far a chain is followed; a record is
--- its offset.
+-- Document 01, 'The words of demand 3': they know nothing of how far a chain is followed; a record
+-- is its offset.
 use Prim.Native.Nat.{ℕ, zero, suc, _+_, _≤_, _<_}
 use mathlib.Core.Path.{_≡_}
 use mathlib.Core.List.{List}

@@ -48,8 +48,8 @@ module _ (s : List ℕ) (size scale : ℕ) (w : List ℕ) (r : ℕ) where
   abbrev pub NoneFits : Type 0
   NoneFits = (j : ℕ) → j < images s r → fits w size scale s (imageAt s r j) ≡ false
 
-  -- where the name was found at r: the words are too few or too many, a type is unknown, an image is
-  -- the first that fits, or none does. One of these always stands (`case-of`)
+  -- where the name was found at r: the words are too few or too many, a type is unknown, an image
+  -- is the first that fits, or none does. One of these always stands (`case-of`)
   pub data Case : Type 0 where
     miscounted : (SixEach s w → ⊥) → Case
     unknown-type : (i : ℕ) → SixEach s w → FirstUnknown s w i → Case

@@ -13,8 +13,8 @@ use bigendian::u16_at;
 use bigendian::u32_at;
 use format::Fault;
 
-// With number 0 the offset of the first image that fits, or 0 if none does; with 32 the index of the
-// word in the slice; with any other number the place of the fault.
+// With number 0 the offset of the first image that fits, or 0 if none does; with 32 the index of
+// the word in the slice; with any other number the place of the fault.
 pub struct PickAnswer {
     pub number: u32,
     pub place: usize,
@@ -147,9 +147,9 @@ fn judge_words(cache: &[u8], words: &[u32]) -> Fault
 }
 
 // The place of the first image of `name`, in the order of its list, whose directory fits: its scale
-// is `scale`, and `size` is its Size (Fixed), from its MinSize to its MaxSize (Scalable), or at most
-// its Threshold away from its Size (Threshold). Place 0 says that none fits. It refuses as the lookup
-// does with room enough, then with 31, then with 32.
+// is `scale`, and `size` is its Size (Fixed), from its MinSize to its MaxSize (Scalable), or at
+// most its Threshold away from its Size (Threshold). Place 0 says that none fits. It refuses as the
+// lookup does with room enough, then with 31, then with 32.
 pub fn pick(cache: &[u8], name: &[u8], size: u32, scale: u32, directories: &[u32]) -> PickAnswer
     ensures { λ r. ⌜ r ≡ definition.pick (now (cache .entry)) (now (name .entry)) size scale (now (directories .entry)) ⌝ }
 {

@@ -1,5 +1,5 @@
--- `chains::follow` meets its contract: each way out is a law of what a field leads to (`follow-end`,
--- `follow-outside`, `follow-broken`, `follow-record`).
+-- `chains::follow` meets its contract: each way out is a law of what a field leads to
+-- (`follow-end`, `follow-outside`, `follow-broken`, `follow-record`).
 use mathlib.Core.Path.{sym}
 use mathlib.Core.Bool.{false≢true}
 use borrow.Author.Needs.{needs}

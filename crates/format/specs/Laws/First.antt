@@ -1,4 +1,5 @@
--- Things in a row: where each stands, and that one of them is the first to pass a test or none does.
+-- Things in a row: where each stands, and that one of them is the first to pass a test or none
+-- does.
 use Prim.Native.Nat.{ℕ, zero, suc, _+_, _*_, _<_}
 use mathlib.Core.Path.{_≡_, refl}
 use mathlib.Core.Bool.{Bool, true, false}

@@ -1,5 +1,5 @@
--- Which numbers a search and a lookup can answer, and that with room enough the lookup answers as the
--- search does.
+-- Which numbers a search and a lookup can answer, and that with room enough the lookup answers as
+-- the search does.
 use Prim.Native.Nat.{ℕ, _*_, _≤_}
 use mathlib.Core.Path.{_≡_, refl, sym}
 use mathlib.Core.List.{List, _∷_, _++_}

@@ -1,5 +1,5 @@
--- `pick::fits` meets its contract: an index that is not 0xFFFF names a directory (`index-below`), so
--- its six words are lent.
+-- `pick::fits` meets its contract: an index that is not 0xFFFF names a directory (`index-below`),
+-- so its six words are lent.
 use mathlib.Core.Path.{_≡_, sym, _∙_}
 use native.Mathlib.Omega.{arith}
 use borrow.Author.Needs.{needs}

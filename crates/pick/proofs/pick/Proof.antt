@@ -1,5 +1,5 @@
--- `pick::pick` meets its contract: a law for each of its three answers. A record that is found keeps
--- the rules (`found-keeps`), so that its images lie inside and name directories of the cache.
+-- `pick::pick` meets its contract: a law for each of its three answers. A record that is found
+-- keeps the rules (`found-keeps`), so that its images lie inside and name directories of the cache.
 use mathlib.Core.Path.{_≡_, sym, ap, _∙_}
 use native.Mathlib.Omega.{arith}
 use borrow.Author.Needs.{needs}

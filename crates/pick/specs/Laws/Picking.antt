@@ -1,4 +1,5 @@
--- The whole answer in plain words: one of its cases always stands, and the answer is that of the case.
+-- The whole answer in plain words: one of its cases always stands, and the answer is that of the
+-- case.
 use Prim.Native.Nat.{ℕ, suc, _+_, _*_, _≤_, _<_}
 use mathlib.Core.Path.{_≡_, refl, sym, ap, _∙_}
 use mathlib.Core.Logic.{_↔_}
