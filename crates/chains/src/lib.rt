@@ -61,7 +61,7 @@ pub fn follow(cache: &[u8], t: Tables, bucket: u32, field: usize) -> Next
 }
 
 // The same, with a name of this bucket to look for. The record's name is compared with it first:
-// one that is equal keeps rules 8 and 9, and isn't read again.
+// one that is equal keeps rules 8, 17 and 9, and isn't read again.
 fn seek(cache: &[u8], t: Tables, bucket: u32, field: usize, name: &[u8]) -> Seen
     requires { ⌜ TablesOf (now cache) t ⌝ }
     requires { ⌜ field + 4 ≤ length (now cache) ⌝ }

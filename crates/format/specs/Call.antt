@@ -33,7 +33,7 @@ checkBuckets (suc n) s k o =
       | Record r ↦ refused 12 (bucketField s k) opened
     ]
 
--- the check: 1 to 6 and 16, then the chains of all buckets from 0 up
+-- the check: 1 to 6, 16 and 17, then the chains of all buckets from 0 up
 unfoldable pub check : List ℕ → CheckAnswer
 check s =
     let v = tablesFault s in
@@ -98,7 +98,7 @@ answerWords s words a =
 abbrev pub lookupWords : List ℕ → List ℕ → List ℕ → List ℕ
 lookupWords s name words = answerWords s words (lookup s name (length words))
 
--- what is judged of a directory index: 1 to 5, then 15, then 6 and 16 on its path
+-- what is judged of a directory index: 1 to 5, then 15, then 6, 17 and 16 on its path
 unfoldable pub directoryFault : List ℕ → ℕ → Fault
 directoryFault s i = headerFault s orElse unless (ltb i (directories s)) 15 0 orElse pathFault s i
 

@@ -6,7 +6,7 @@ use lib.ListN.{length, take, drop, replicate}
 use lib.Dec.{T, eqb}
 use Rattle.format.specs.Number.{be}
 use Rattle.format.specs.Fault.{_orElse_, firstFault}
-use Rattle.format.specs.String.{string, extent, isWhole, sameBytes, signed, hashFrom, hashNumbers, hash, allowed}
+use Rattle.format.specs.String.{string, extent, isWhole, stringFault, sameBytes, signed, hashFrom, hashNumbers, hash, allowed}
 use Rattle.format.specs.Segments.{segments, firstSegment, laterSegments, validSegment, allValid}
 use Rattle.format.specs.Header.{headerFault, pathFault, tablesFault}
 use Rattle.format.specs.Record.{nameFault, listFault, recordFault, imageWords}
@@ -96,7 +96,7 @@ examples =
     looksUp looped ewe (lent 5) (lookedUp 12 16 0 116) (lent 5) ∷
     -- P9 to P11
     checks (patched 20 (0 ∷ 0 ∷ 0 ∷ 28 ∷ []) farm) (refused 9 32 3) ∷
-    checks (take 125 farm) (refused 8 56 3) ∷
+    checks (take 125 farm) (refused 17 56 3) ∷
     checks (patched 88 (0 ∷ 2 ∷ []) farm) (refused 11 88 3) ∷
     -- P12
     names farm 1 (directoryIs 0 0) (54 ∷ 52 ∷ []) ∷
@@ -104,5 +104,5 @@ examples =
     []
 
 examples-hold : T (all examples)
-unfolding all holds examples lent looped patched farm cow oat pig ewe sameCheck sameLookup sameDirectory check checkBuckets firstNamed searchBucket queryFault find withImages lookup foundAnswer answerWords directoryFault directory directoryPath linkFault follow chain recordFault nameFault listFault imageWords headerFault segments firstSegment laterSegments validSegment allValid pathFault tablesFault _orElse_ firstFault extent string isWhole sameBytes signed hashFrom hashNumbers hash allowed be
+unfolding all holds examples lent looped patched farm cow oat pig ewe sameCheck sameLookup sameDirectory check checkBuckets firstNamed searchBucket queryFault find withImages lookup foundAnswer answerWords directoryFault directory directoryPath linkFault follow chain recordFault nameFault listFault imageWords headerFault segments firstSegment laterSegments validSegment allValid pathFault tablesFault _orElse_ firstFault extent string isWhole stringFault sameBytes signed hashFrom hashNumbers hash allowed be
 examples-hold = tt

@@ -1,5 +1,5 @@
--- The header, the directory list and the hash: document 01's tables, and request 4. Rules 1 to 6,
--- and 16.
+-- The header, the directory list and the hash: document 01's tables, and requests 4 and 7. Rules 1
+-- to 6, 16 and 17.
 use Prim.Native.Nat.{ℕ}
 use mathlib.Core.List.{List}
 use mathlib.Core.Bool.{Bool, not, _&&_}
@@ -9,9 +9,10 @@ use Rattle.format.specs.Layout.{headerSize, majorField, minorField, hash
 use Rattle.format.specs.Number.{be}
 use Rattle.format.specs.Part.{inside, listInside}
 use Rattle.format.specs.Fault.{unless, _orElse_, firstFault}
-use Rattle.format.specs.String.{string, extent, isWhole}
+use Rattle.format.specs.String.{string, extent, stringFault}
 use Rattle.format.specs.Segments.{slash, validSegments}
 use Rattle.format.specs.declared.Fault.{Fault}
+use Rattle.format.specs.declared.Extent.{Extent}
 
 -- where the hash stands, and how many buckets it has
 abbrev pub bucketsAt : List ℕ → ℕ
@@ -61,20 +62,25 @@ pathPart s i = drop (be 4 s (pathField s i)) s
 abbrev pub pathOf : List ℕ → ℕ → List ℕ
 pathOf s i = string (pathPart s i)
 
--- what rule 6 asks of the path of directory i: whole, and no slash first
-abbrev pub validPath : List ℕ → ℕ → Bool
-validPath s i = isWhole (extent longestPath (pathPart s i)) && not (eqb (getD (pathOf s i) 0 0) slash)
+-- what it is, as a path
+abbrev pub pathExtent : List ℕ → ℕ → Extent
+pathExtent s i = extent longestPath (pathPart s i)
 
--- rules 6 and 16 on the path of directory i
+-- what rule 6 asks of the path of directory i besides: no slash first
+abbrev pub relativePath : List ℕ → ℕ → Bool
+relativePath s i = not (eqb (getD (pathOf s i) 0 0) slash)
+
+-- rules 6, 17 and 16 on the path of directory i
 unfoldable pub pathFault : List ℕ → ℕ → Fault
 pathFault s i =
-    unless (validPath s i) 6 (pathField s i)
+    stringFault (pathExtent s i) 6 (pathField s i)
+    orElse unless (relativePath s i) 6 (pathField s i)
     orElse unless (validSegments (pathOf s i)) 16 (pathField s i)
 
--- rules 6 and 16 on n paths from directory i on
+-- the same on n paths from directory i on
 abbrev pub pathsFault : ℕ → List ℕ → ℕ → Fault
 pathsFault n s i = firstFault (pathFault s) 1 n i
 
--- rules 1 to 6 and 16
+-- rules 1 to 6, 16 and 17
 unfoldable pub tablesFault : List ℕ → Fault
 tablesFault s = headerFault s orElse pathsFault (directories s) s 0

@@ -7,6 +7,7 @@ pub mod Faults
 pub mod Numbers
 pub mod Reads
 pub mod Strings
+pub mod Extents
 pub mod Hashes
 pub mod Names
 pub mod Segments

@@ -1,4 +1,4 @@
--- An icon record and its images: document 01's tables. Rules 8 to 11.
+-- An icon record and its images: document 01's tables. Rules 8 to 11, and 17.
 use Prim.Native.Nat.{ℕ, zero, suc, _+_, _*_, _%_}
 use mathlib.Core.List.{List, [], _∷_}
 use mathlib.Core.Bool.{Bool, _&&_}
@@ -9,9 +9,10 @@ use Rattle.format.specs.Layout.{entriesAt, nameField, imagesField, image
 use Rattle.format.specs.Number.{be}
 use Rattle.format.specs.Part.{listInside}
 use Rattle.format.specs.Fault.{unless, _orElse_, firstFault}
-use Rattle.format.specs.String.{string, extent, isWhole, spellsName, hash}
+use Rattle.format.specs.String.{string, extent, stringFault, spellsName, hash}
 use Rattle.format.specs.Header.{buckets, directories}
 use Rattle.format.specs.declared.Fault.{Fault}
+use Rattle.format.specs.declared.Extent.{Extent}
 
 -- the buffer from the name of record r on (NAME_OFFSET), and the name
 abbrev pub namePart : List ℕ → ℕ → List ℕ
@@ -19,6 +20,10 @@ namePart s r = drop (be 4 s (nameField r)) s
 
 abbrev pub nameOf : List ℕ → ℕ → List ℕ
 nameOf s r = string (namePart s r)
+
+-- what it is, as a name
+abbrev pub nameExtent : List ℕ → ℕ → Extent
+nameExtent s r = extent longestName (namePart s r)
 
 -- the bucket that a name's hash gives
 abbrev pub bucketOf : List ℕ → List ℕ → ℕ
@@ -35,10 +40,7 @@ images s r = be 4 s (imagesAt s r)
 abbrev pub validIndex : ℕ → ℕ → Bool
 validIndex n i = if eqb n 0 then eqb i noDirectory else ltb i n
 
--- what rules 8 and 9 ask of the name of record r on bucket k's chain
-abbrev pub validName : List ℕ → ℕ → Bool
-validName s r = isWhole (extent longestName (namePart s r))
-
+-- what rule 9 asks of the name of record r on bucket k's chain
 abbrev pub ownBucket : List ℕ → ℕ → ℕ → Bool
 ownBucket s k r = eqb (bucketOf s (nameOf s r)) k
 
@@ -57,9 +59,12 @@ imageFault s p = unless (validImage s p) 11 p
 abbrev pub imagesFault : ℕ → List ℕ → ℕ → Fault
 imagesFault m s p = firstFault (imageFault s) imageSize m p
 
--- of the record r on bucket k's chain: rules 8 and 9 on its name, 10 and 11 on its images, and all
+-- of the record r on bucket k's chain: rules 8, 17 and 9 on its name, 10 and 11 on its images, and
+-- all
 unfoldable pub nameFault : List ℕ → ℕ → ℕ → Fault
-nameFault s k r = unless (validName s r) 8 (nameField r) orElse unless (ownBucket s k r) 9 (nameField r)
+nameFault s k r =
+    stringFault (nameExtent s r) 8 (nameField r)
+    orElse unless (ownBucket s k r) 9 (nameField r)
 
 unfoldable pub listFault : List ℕ → ℕ → Fault
 listFault s r =

@@ -7,6 +7,8 @@ use lib.ListN.{length}
 use lib.Dec.{ltb, leb, eqb}
 use Rattle.format.specs.Choice.{if_then_else_}
 use Rattle.format.specs.Layout.{longestName}
+use Rattle.format.specs.Fault.{fault, noFault}
+use Rattle.format.specs.declared.Fault.{Fault}
 use Rattle.format.specs.declared.Extent.{Extent}
 use Rattle.format.specs.declared.Extent.the-variants.{Whole, Empty, Long, Cut}
 
@@ -32,6 +34,14 @@ isWhole (Whole n) = true
 isWhole Empty = false
 isWhole Long = false
 isWhole Cut = false
+
+-- the rule that a string breaks, at p, by what it is: rule x where it is empty or too long, and 17
+-- where it is cut off (request 7)
+unfoldable pub stringFault : Extent → ℕ → ℕ → Fault
+stringFault (Whole n) x p = noFault
+stringFault Empty x p = fault x p
+stringFault Long x p = fault x p
+stringFault Cut x p = fault 17 p
 
 -- the same length and the same bytes
 unfoldable pub sameBytes : List ℕ → List ℕ → Bool

@@ -39,7 +39,7 @@ pub record OnChain (s : List ℕ) (k n r : ℕ) : Type 0 where
 abbrev pub NeverEnds : List ℕ → ℕ → Type 0
 NeverEnds s k = (n : ℕ) → Goes s k n
 
--- the record r keeps rules 7 to 11, as a record of bucket k's chain
+-- the record r keeps rules 7 to 11 and 17, as a record of bucket k's chain
 pub record Keeps (s : List ℕ) (k r : ℕ) : Type 0 where
   pub inside : Inside s r
   pub rules : recordFault s k r .number ≡ 0
@@ -68,7 +68,7 @@ pub record Turns (s : List ℕ) (k : ℕ) : Type 0 where
   pub endless : NeverEnds s k
   pub keeps : (n : ℕ) → Keeps s k (link s k n)
 
--- none of 1 to 6 and 16 stands
+-- none of 1 to 6 stands, nor 16 or 17 on a path
 abbrev pub TablesKept : List ℕ → Type 0
 TablesKept s = tablesFault s .number ≡ 0
 
@@ -77,7 +77,7 @@ pub record HeldBefore (s : List ℕ) (k : ℕ) : Type 0 where
   pub tables-kept : TablesKept s
   pub lower : (j : ℕ) → j < k → (n : ℕ) × Holds s j n
 
--- none of 1 to 6 and 16 stands, and every chain holds
+-- the same, and every chain holds
 abbrev pub Accepted : List ℕ → Type 0
 Accepted s = HeldBefore s (buckets s)
 

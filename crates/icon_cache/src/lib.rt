@@ -34,7 +34,7 @@ fn refused(number: u32, place: usize, opened: usize) -> CheckAnswer
     }
 }
 
-// The check of all chains, in a cache that keeps the rules 1 to 6 and 16.
+// The check of all chains, in a cache that keeps the rules 1 to 6, 16 and 17.
 fn check_buckets(cache: &[u8], t: Tables) -> CheckAnswer
     requires { ⌜ TablesOf (now cache) t ⌝ }
     ensures { λ r. ⌜ r ≡ checkBuckets (buckets (now (cache .entry))) (now (cache .entry)) 0 0 ⌝ }

@@ -6,7 +6,7 @@ use lib.ListN.{take}
 use lib.Dec.{T, eqb}
 use Rattle.format.specs.Number.{be}
 use Rattle.format.specs.Fault.{_orElse_, firstFault}
-use Rattle.format.specs.String.{string, extent, isWhole, sameBytes, signed, hashFrom, hashNumbers, hash}
+use Rattle.format.specs.String.{string, extent, isWhole, stringFault, sameBytes, signed, hashFrom, hashNumbers, hash}
 use Rattle.format.specs.Header.{headerFault}
 use Rattle.format.specs.Record.{nameFault, listFault, recordFault}
 use Rattle.format.specs.Chain.{linkFault, follow, chain}
@@ -47,11 +47,11 @@ examples =
     answers looped (position 0 116) (stays 26 0 (position 0 116)) ∷
     -- the name of cow is cut off: it is judged when it is its turn
     answers (take 125 farm) (position 0 1) (handsBack 40 (position 0 2)) ∷
-    answers (take 125 farm) (position 0 2) (stays 8 56 (position 0 2)) ∷
+    answers (take 125 farm) (position 0 2) (stays 17 56 (position 0 2)) ∷
     -- a header of eleven bytes
     answers (take 11 farm) (position 0 0) (stays 1 0 (position 0 0)) ∷
     []
 
 examples-hold : T (all examples)
-unfolding all answers samePosition examples looped patched farm step onward positionFault linkFault follow chain recordFault nameFault listFault headerFault _orElse_ firstFault extent string isWhole sameBytes signed hashFrom hashNumbers hash be
+unfolding all answers samePosition examples looped patched farm step onward positionFault linkFault follow chain recordFault nameFault listFault headerFault _orElse_ firstFault extent string isWhole stringFault sameBytes signed hashFrom hashNumbers hash be
 examples-hold = tt

@@ -1,4 +1,5 @@
-// An icon record of a cache: rules 8 to 11, whether it bears a name, and the words of its images.
+// An icon record of a cache: rules 8 to 11 and 17, whether it bears a name, and the words of its
+// images.
 ghost use mathlib.Core.Path.{_≡_};
 ghost use mathlib.Core.List.{_++_};
 ghost use mathlib.Core.Bool.{true};
@@ -114,8 +115,8 @@ fn name_part(cache: &[u8], record: usize) -> &[u8]
     strings::from(cache, at)
 }
 
-// Rules 8 and 9 on the name of `record`, on the chain of `bucket`. A name that is `known` to keep
-// them isn't read.
+// Rules 8, 17 and 9 on the name of `record`, on the chain of `bucket`. A name that is `known` to
+// keep them isn't read.
 fn judge_name(cache: &[u8], t: Tables, bucket: u32, record: usize, known: bool) -> Fault
     requires { ⌜ TablesOf (now cache) t ⌝ }
     requires { ⌜ «record» + 12 ≤ length (now cache) ⌝ }
@@ -131,10 +132,7 @@ fn judge_name(cache: &[u8], t: Tables, bucket: u32, record: usize, known: bool) 
     let name = strings::read_name(name_part(cache, record));
     let extent = name.extent;
     let Extent::Whole(_) = extent else {
-        return Fault {
-            number: 8,
-            place: record + 4,
-        };
+        return strings::judge(extent, 8, record + 4);
     };
     if name.hash % t.buckets != bucket {
         return Fault {
@@ -166,8 +164,8 @@ fn judge_images(cache: &[u8], t: Tables, record: usize) -> Fault
     images(cache, n, m, at + 4)
 }
 
-// The first of the rules 8 to 11 that `record` breaks, on the chain of `bucket`. A name that is
-// `known` to keep 8 and 9 isn't read.
+// The first of the rules 8 to 11 and 17 that `record` breaks, on the chain of `bucket`. A name that
+// is `known` to keep 8, 17 and 9 isn't read.
 pub fn judge(cache: &[u8], t: Tables, bucket: u32, record: usize, known: bool) -> Fault
     requires { ⌜ TablesOf (now cache) t ⌝ }
     requires { ⌜ «record» + 12 ≤ length (now cache) ⌝ }

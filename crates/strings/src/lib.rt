@@ -5,10 +5,11 @@ ghost use mathlib.Core.Path.{_≡_};
 ghost use mathlib.Core.Bool.{true, _&&_};
 ghost use Prim.Native.Nat.{_-_, _*_, _%_, _^_, _≤_};
 ghost use lib.ListN.{length, take, drop};
-ghost use Rattle.format.specs.String.{string, extent, spellsName, hash, allowed};
+ghost use Rattle.format.specs.String.{string, extent, stringFault, spellsName, hash, allowed};
 ghost use Rattle.format.specs.String as definition;
 ghost use Rattle.format.specs.Segments.{validSegment, validSegments};
 use format::Extent;
+use format::Fault;
 use std::num::wrapping_add_u8;
 use std::num::wrapping_add_u32;
 use std::num::wrapping_sub_u32;
@@ -51,6 +52,28 @@ fn ended(n: usize) -> Extent
         Extent::Empty
     } else {
         Extent::Whole(n)
+    }
+}
+
+// The rule that a string breaks by what it is: `rule` where it is empty or too long, 17 where it is
+// cut off.
+pub fn judge(extent: Extent, rule: u32, place: usize) -> Fault
+    ensures { λ r. ⌜ r ≡ stringFault extent rule place ⌝ }
+{
+    match extent {
+        Extent::Whole(_) => Fault {
+            number: 0,
+            place: 0,
+        },
+        Extent::Empty => Fault {
+            number: rule,
+            place,
+        },
+        Extent::Long => Fault {
+            number: rule,
+            place,
+        },
+        Extent::Cut => Fault { number: 17, place },
     }
 }
 

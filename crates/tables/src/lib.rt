@@ -1,4 +1,4 @@
-// The header of a cache, its directory list and its hash: rules 1 to 6, and 16.
+// The header of a cache, its directory list and its hash: rules 1 to 6, 16 and 17.
 ghost use mathlib.Core.Path.{_≡_};
 ghost use Prim.Native.Nat.{_+_, _^_, _≤_, _<_};
 ghost use lib.ListN.{length};
@@ -150,8 +150,8 @@ fn bad_path(number: u32, field: usize) -> JudgedPath
     }
 }
 
-// Rules 6 and 16 on the path of directory `i`, in a cache whose header breaks no rule, and where
-// the path stands if it keeps both.
+// Rules 6, 17 and 16 on the path of directory `i`, in a cache whose header breaks no rule, and
+// where the path stands if it keeps them.
 pub fn path(cache: &[u8], t: Tables, i: u32) -> JudgedPath
     requires { ⌜ TablesOf (now cache) t ⌝ }
     requires { ⌜ i < directories (now cache) ⌝ }
@@ -181,7 +181,11 @@ pub fn path(cache: &[u8], t: Tables, i: u32) -> JudgedPath
                 length,
             }
         }
-        _ => bad_path(6, field),
+        _ => JudgedPath {
+            fault: strings::judge(extent, 6, field),
+            start: 0,
+            length: 0,
+        },
     }
 }
 

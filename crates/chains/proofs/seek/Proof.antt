@@ -1,6 +1,6 @@
 -- `chains::seek` meets its contract: each way out is a law of what a field leads to, as in
--- `follow`, and a record that bears the name keeps rules 8 and 9 (`bears-home`), so `judge` may be
--- told.
+-- `follow`, and a record that bears the name keeps rules 8, 17 and 9 (`bears-home`), so `judge` may
+-- be told.
 use Prim.Native.Nat.{ℕ}
 use mathlib.Core.Path.{_≡_, sym, _∙_}
 use mathlib.Core.List.{List}

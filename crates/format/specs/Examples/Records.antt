@@ -1,4 +1,4 @@
--- Examples of rules 6 to 12, of the words of a lookup, and of the paths of request 4.
+-- Examples of rules 6 to 12 and 17, of the words of a lookup, and of the paths of request 4.
 use mathlib.Core.List.{List, [], _∷_}
 use lib.ListN.{take, replicate}
 use Rattle.format.specs.Answer.{accepted, refused, lookedUp, directoryIs}
@@ -15,6 +15,15 @@ recordExamples =
     checks (pathed 1023) (accepted 1 0) ∷
     -- a path of 1,024 bytes
     checks (pathed 1024) (refused 6 24 0) ∷
+    -- 1,023 bytes up to the end, without a zero byte; one more is too long
+    checks (take 1051 (pathed 1024)) (refused 17 24 0) ∷
+    checks (take 1052 (pathed 1024)) (refused 6 24 0) ∷
+    -- a path at the end and one past it; the first is no fault of the bytes before
+    names (take 28 (pathed 1)) 0 (directoryIs 17 24) [] ∷
+    names (put 24 200 (pathed 1)) 0 (directoryIs 17 24) [] ∷
+    -- "/p" cut off, and a path that is too long and begins with a slash
+    checks (take 30 (patched 28 (47 ∷ []) (pathed 2))) (refused 17 24 0) ∷
+    checks (patched 28 (47 ∷ []) (pathed 1024)) (refused 6 24 0) ∷
     -- a record ending at L
     checks recordLast (accepted 0 1) ∷
     -- a record ending at L + 1
@@ -28,6 +37,10 @@ recordExamples =
     looksUp (named 255) (replicate 255 110) [] (lookedUp 0 24 0 1) [] ∷
     -- a name of 256 bytes
     checks (named 256) (refused 8 28 1) ∷
+    -- 255 bytes up to the end, without a zero byte; one more is too long
+    checks (take 295 (named 256)) (refused 17 28 1) ∷
+    checks (take 296 (named 256)) (refused 8 28 1) ∷
+    looksUp (take 295 (named 256)) (110 ∷ []) [] (lookedUp 17 28 0 1) [] ∷
     -- an image list ending at L; without directories the index is 0xFFFF
     checks undirected (accepted 0 1) ∷
     looksUp undirected cow (lent 3) (lookedUp 0 24 1 1) (4294901761 ∷ 0 ∷ 7 ∷ []) ∷
@@ -63,7 +76,7 @@ loopExamples =
     -- oat leads to itself, behind hen
     checks (put 40 40 farm) (refused 12 16 116) ∷
     -- a loop of hen and oat, whose name is at the end: another fault comes before 12
-    checks (put 44 126 looped) (refused 8 44 2) ∷
+    checks (put 44 126 looped) (refused 17 44 2) ∷
     []
 
 -- in the two paths of the farm cache, at 108 and 111, with their fields at 100 and 104

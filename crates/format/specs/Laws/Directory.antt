@@ -3,18 +3,18 @@
 use Prim.Native.Nat.{ℕ, zero, suc, _+_, _≤_, _<_}
 use mathlib.Core.Path.{_≡_, refl, _∙_}
 use mathlib.Core.List.{List}
-use mathlib.Core.Bool.{and-eq-true-iff}
 use native.Mathlib.Omega.{arith}
 use borrow.Author.Tests.{lt-ltb, le-ltb}
 use lib.ListN.{length, take, drop, length-drop}
 use lib.Dec.{ltb}
 use Rattle.format.specs.Number.{be}
 use Rattle.format.specs.Fault.{fault, ifKept}
-use Rattle.format.specs.Header.{directories, headerFault, pathField, pathPart, pathOf, validPath, pathFault}
+use Rattle.format.specs.Header.{directories, headerFault, pathField, pathPart, pathOf, pathFault}
 use Rattle.format.specs.Answer.{partIs}
 use Rattle.format.specs.Call.{directoryFault, directoryPart, directoryPath}
 use Rattle.format.specs.declared.Fault.{Fault}
-use Rattle.format.specs.Laws.Faults.{orElse-first, orElse-next, orElse-none, unless-none, broken-speaks, kept-passes, broken-takes}
+use Rattle.format.specs.Laws.Faults.{orElse-first, orElse-next, orElse-none, broken-speaks, kept-passes, broken-takes}
+use Rattle.format.specs.Laws.Extents.{string-whole}
 use Rattle.format.specs.Laws.Strings.{string-front, whole-string}
 
 module _ (s : List ℕ) (i : ℕ) where
@@ -45,8 +45,7 @@ module _ (s : List ℕ) (i : ℕ) where
   unfolding directoryFault pathFault
   path-ends e =
       let kept = orElse-none _ _ (orElse-none _ _ (orElse-none _ _ e .1) .1) .0 in
-      let right = unless-none (validPath s i) 5 (pathField s i) kept in
-      whole-string 1023 (pathPart s i) (and-eq-true-iff _ _ .0 right .0) .ended
+      whole-string 1023 (pathPart s i) (string-whole _ _ _ kept) .ended
 
   pub part-inside : directoryPart s i .start + directoryPart s i .length ≤ length s
   unfolding directoryPart

@@ -23,10 +23,10 @@ abbrev pub headerNumbers : List ℕ
 headerNumbers = 1 ∷ 2 ∷ 3 ∷ 4 ∷ 5 ∷ []
 
 abbrev pub tablesNumbers : List ℕ
-tablesNumbers = 6 ∷ 16 ∷ headerNumbers
+tablesNumbers = 6 ∷ 16 ∷ 17 ∷ headerNumbers
 
 abbrev pub recordNumbers : List ℕ
-recordNumbers = 8 ∷ 9 ∷ 10 ∷ 11 ∷ []
+recordNumbers = 8 ∷ 9 ∷ 10 ∷ 11 ∷ 17 ∷ []
 
 abbrev pub linkNumbers : List ℕ
 linkNumbers = 7 ∷ recordNumbers

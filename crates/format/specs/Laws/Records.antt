@@ -1,27 +1,32 @@
--- Rules 8 to 11 on a record, one law for each rule that is the first to be broken, and what the
--- comparison with a wanted name tells.
+-- Rules 8 to 11 and 17 on a record, one law for each rule that is the first to be broken, and what
+-- the comparison with a wanted name tells.
 use Prim.Native.Nat.{ℕ, _+_}
 use mathlib.Core.Path.{_≡_, _∙_, ap}
 use mathlib.Core.List.{List}
 use mathlib.Core.Bool.{true, false, and-eq-true-iff}
 use borrow.Author.Tests.{eq-eqb, ne-eqb}
 use Rattle.format.specs.Fault.{fault, noFault, unless}
-use Rattle.format.specs.Record.{nameOf, bucketOf, imagesAt, images, validName, validImageList, bearsName, imagesFault, nameFault, listFault, recordFault}
+use Rattle.format.specs.String.{isWhole, stringFault}
+use Rattle.format.specs.Record.{nameOf, bucketOf, imagesAt, images, nameExtent, ownBucket, validImageList, bearsName, imagesFault, nameFault, listFault, recordFault}
 use Rattle.format.specs.Laws.Names.{same-equal}
-use Rattle.format.specs.Laws.Faults.{orElse-first, orElse-next, broken-speaks, kept-passes}
+use Rattle.format.specs.Laws.Faults.{same-number, orElse-first, orElse-next, unless-broken, broken-speaks, kept-passes}
+use Rattle.format.specs.Laws.Extents.{string-kept, string-broken}
 
 module _ (s : List ℕ) (k r : ℕ) where
-  pub name-unread : validName s r ≡ false → nameFault s k r ≡ fault 8 (r + 4)
+  pub name-unread : isWhole (nameExtent s r) ≡ false → nameFault s k r ≡ stringFault (nameExtent s r) 8 (r + 4)
   unfolding nameFault
-  name-unread e = broken-speaks (validName s r) _ _ _ e
+  name-unread e = orElse-first _ _ (string-broken _ _ _ e)
 
-  pub name-foreign : validName s r ≡ true → (bucketOf s (nameOf s r) ≡ k → ⊥) → nameFault s k r ≡ fault 9 (r + 4)
-  unfolding nameFault
-  name-foreign e h = kept-passes (validName s r) _ _ _ e ∙ ap (λ b. unless b 9 (r + 4)) (ne-eqb _ _ h)
+  module _ (whole : isWhole (nameExtent s r) ≡ true) where
+    read : nameFault s k r ≡ unless (ownBucket s k r) 9 (r + 4)
+    unfolding nameFault
+    read = orElse-next _ _ (same-number (string-kept _ 8 (r + 4) whole))
 
-  pub name-home : validName s r ≡ true → bucketOf s (nameOf s r) ≡ k → nameFault s k r ≡ noFault
-  unfolding nameFault
-  name-home e h = kept-passes (validName s r) _ _ _ e ∙ ap (λ b. unless b 9 (r + 4)) (eq-eqb _ _ h)
+    pub name-foreign : (bucketOf s (nameOf s r) ≡ k → ⊥) → nameFault s k r ≡ fault 9 (r + 4)
+    name-foreign h = read ∙ unless-broken _ _ _ (ne-eqb _ _ h)
+
+    pub name-home : bucketOf s (nameOf s r) ≡ k → nameFault s k r ≡ noFault
+    name-home h = read ∙ ap (λ b. unless b 9 (r + 4)) (eq-eqb _ _ h)
 
   pub record-misnamed : (nameFault s k r .number ≡ 0 → ⊥) → recordFault s k r ≡ nameFault s k r
   unfolding recordFault
@@ -40,8 +45,8 @@ module _ (s : List ℕ) (r : ℕ) where
   unfolding listFault
   list-kept e = kept-passes (validImageList s (imagesAt s r)) _ _ _ e
 
--- a record that bears the wanted name keeps rules 8 and 9 where that name is at home
+-- a record that bears the wanted name keeps rules 8, 17 and 9 where that name is at home
 pub bears-home : (s wanted : List ℕ) (k r : ℕ) → bucketOf s wanted ≡ k → bearsName s r wanted ≡ true → nameFault s k r ≡ noFault
 bears-home s wanted k r home e =
-    let both = and-eq-true-iff (validName s r) _ .0 e in
+    let both = and-eq-true-iff (isWhole (nameExtent s r)) _ .0 e in
     name-home s k r (both .0) (ap (bucketOf s) (same-equal (nameOf s r) wanted (both .1)) ∙ home)

@@ -6,17 +6,19 @@ use mathlib.Core.List.{List}
 use mathlib.Core.Bool.{true, and-eq-true-iff}
 use borrow.Author.Tests.{eqb-true, leb-true}
 use lib.ListN.{length}
+use Rattle.format.specs.String.{isWhole}
 use Rattle.format.specs.Header.{directories, headerFault, pathFault, pathsFault, tablesFault}
-use Rattle.format.specs.Record.{nameOf, bucketOf, imagesAt, images, nameFault, listFault, recordFault, imagesFault, validName}
+use Rattle.format.specs.Record.{nameOf, bucketOf, imagesAt, images, nameFault, listFault, recordFault, imagesFault, nameExtent}
 use Rattle.format.specs.Laws.Faults.{unless-none, orElse-first, orElse-next, orElse-none}
 use Rattle.format.specs.Laws.Numbers.{OneOf, tablesNumbers, recordNumbers, unless-one, orElse-one, first-one, widened}
+use Rattle.format.specs.Laws.Extents.{string-whole, string-one}
 use Rattle.format.specs.Laws.Header.{header-number}
 use Rattle.format.specs.Laws.Reads.{list-ends}
 
--- what a record tells that keeps rules 8 to 11: its name is whole and stands in its own bucket, its
--- images lie inside, and each keeps rule 11
+-- what a record tells that keeps rules 8 to 11 and 17: its name is whole and stands in its own
+-- bucket, its images lie inside, and each keeps rule 11
 pub record ValidRecord (s : List ℕ) (k r : ℕ) : Type 0 where
-  pub named : validName s r ≡ true
+  pub named : isWhole (nameExtent s r) ≡ true
   pub home : bucketOf s (nameOf s r) ≡ k
   pub listed : imagesAt s r + 4 + 8 * images s r ≤ length s
   pub few : images s r ≤ 1024
@@ -25,7 +27,7 @@ pub record ValidRecord (s : List ℕ) (k r : ℕ) : Type 0 where
 module _ (s : List ℕ) where
   path-number : (i : ℕ) → OneOf tablesNumbers (pathFault s i .number)
   unfolding pathFault
-  path-number i = search (orElse-one, unless-one)
+  path-number i = search (orElse-one, unless-one, string-one)
 
   pub tables-number : OneOf tablesNumbers (tablesFault s .number)
   unfolding tablesFault
@@ -46,7 +48,7 @@ module _ (s : List ℕ) where
   module _ (k r : ℕ) where
     pub record-number : OneOf recordNumbers (recordFault s k r .number)
     unfolding recordFault nameFault listFault
-    record-number = search (orElse-one, unless-one, first-one)
+    record-number = search (orElse-one, unless-one, first-one, string-one)
 
     pub record-valid : recordFault s k r .number ≡ 0 → ValidRecord s k r
     unfolding recordFault nameFault listFault
@@ -55,7 +57,7 @@ module _ (s : List ℕ) where
         let list = orElse-none _ _ (orElse-none _ _ e .1) in
         let inside-few = and-eq-true-iff _ _ .0 (unless-none _ _ _ (list .0)) in
         record {
-          named = unless-none _ _ _ (name .0);
+          named = string-whole _ _ _ (name .0);
           home = eqb-true _ _ (unless-none _ _ _ (name .1));
           listed = list-ends s (imagesAt s r) 8 (inside-few .0);
           few = leb-true _ _ (inside-few .1);

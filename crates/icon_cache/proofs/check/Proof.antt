@@ -1,6 +1,6 @@
 -- `icon_cache::check` meets its contract: a broken rule of the header, then one of a path, is the
--- first of the rules 1 to 6 and 16 that is broken (`tables-header`, `tables-paths`), and without
--- one the buckets decide (`check-goes-on`).
+-- first of the rules 1 to 6, 16 and 17 that is broken (`tables-header`, `tables-paths`), and
+-- without one the buckets decide (`check-goes-on`).
 use Prim.Native.Nat.{ℕ}
 use mathlib.Core.Path.{_≡_, sym, _∙_}
 use mathlib.Core.List.{List}

@@ -1,15 +1,14 @@
 -- `records::judge_name` meets its contract: what each test asks is what a rule of the definition
 -- asks, and the laws `name-unread`, `name-foreign` and `name-home` say which rule is the first to
 -- be broken. A name that is known keeps both by the `requires`.
-use Prim.Native.Nat.{ℕ, _%_}
+use Prim.Native.Nat.{_+_, _%_}
 use mathlib.Core.Path.{_≡_, ap, sym, _∙_}
-use mathlib.Core.List.{List}
 use mathlib.Core.Bool.{true}
 use borrow.Author.Needs.{needs}
 use denote.Ref.{now}
-use Rattle.format.specs.String.{extent, isWhole, hash}
+use Rattle.format.specs.String.{extent, isWhole, stringFault, hash}
 use Rattle.format.specs.Header.{buckets}
-use Rattle.format.specs.Record.{nameOf, bucketOf, validName}
+use Rattle.format.specs.Record.{nameOf, bucketOf, nameExtent}
 use Rattle.format.specs.Laws.Strings.{whole-within}
 use Rattle.format.specs.Laws.Hashes.{hash-bucket}
 use Rattle.format.specs.Laws.Header.{header-valid}
@@ -31,17 +30,17 @@ counted : (c : tie.Start) → c .args .t .buckets ≡ buckets (now (c .args .cac
 counted c = same-buckets (c .pre .0)
 
 named : (c : tie.After-read-name)
-    → let a = start c .args in isWhole (c .read-name .result .extent) ≡ validName (now (a .cache)) (a .«record»)
-named c = ap isWhole (c .read-name .ensures .0) ∙ ap (λ (t : List ℕ). isWhole (extent 255 t)) (c .before .name-part .ensures)
+    → let a = start c .args in c .read-name .result .extent ≡ nameExtent (now (a .cache)) (a .«record»)
+named c = c .read-name .ensures .0 ∙ ap (extent 255) (c .before .name-part .ensures)
 
--- a name that keeps rule 8 was read to its end
+-- a name that is whole was read to its end
 hashed : (c : tie.After-read-name)
     → let a = start c .args in
-    validName (now (a .cache)) (a .«record») ≡ true → c .read-name .result .hash ≡ hash (nameOf (now (a .cache)) (a .«record»))
+    isWhole (nameExtent (now (a .cache)) (a .«record»)) ≡ true → c .read-name .result .hash ≡ hash (nameOf (now (a .cache)) (a .«record»))
 hashed c valid = c .read-name .ensures .1 ∙ ap hash (whole-within 255 (c .before .name-part .ensures) valid)
 
-whole : (c : tie.After-struct-known2) → validName (now (start-of-all c .args .cache)) (start-of-all c .args .«record») ≡ true
-whole c = sym (named (c .before .before .before .before)) ∙ tag-whole _ (c .before .before .before .match .keys1)
+whole : (c : tie.After-struct-known2) → isWhole (nameExtent (now (start-of-all c .args .cache)) (start-of-all c .args .«record»)) ≡ true
+whole c = ap isWhole (sym (named (c .before .before .before .before))) ∙ tag-whole _ (c .before .before .before .match .keys1)
 
 placed : (c : tie.After-struct-known2)
     → let a = start-of-all c .args in
@@ -52,7 +51,10 @@ returns : tie.Need-returns
 returns c = sym (c .before .before .pre .1 .1 (c .if1 .taken))
 
 returns-2 : tie.Need-returns-2
-returns-2 c = sym (name-unread _ _ _ (sym (named (c .before)) ∙ tag-not-whole _ (c .match .keys2)))
+returns-2 c =
+    let read = c .before .before in
+    let broken = ap isWhole (sym (named read)) ∙ tag-not-whole _ (c .before .match .keys2) in
+    c .judge .ensures ∙ ap (λ e. stringFault e 8 (start read .args .«record» + 4)) (named read) ∙ sym (name-unread _ _ _ broken)
 
 rem-if2 : tie.Need-rem-if2
 rem-if2 c = rw (counted (start-of-all c)) (header-valid _ (start-of-all c .pre .0 .header) .buckets-some)
@@ -72,6 +74,7 @@ judge-name-spec =
     (λ c κs. search needs)
     (λ c. search needs)
     (λ c. search needs)
+    (λ c κs. search needs)
     returns-2
     rem-if2
     (λ c. search needs)

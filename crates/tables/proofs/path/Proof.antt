@@ -2,7 +2,7 @@
 -- the string and that on its segments are those of the definitions, and each `return` is one of the
 -- laws `path-not-whole`, `path-absolute`, `path-segments` and `path-kept`. A whole string has a
 -- first byte.
-use Prim.Native.Nat.{ℕ, suc}
+use Prim.Native.Nat.{ℕ, suc, _-_}
 use mathlib.Core.Path.{_≡_, _∙_, sym, ap}
 use mathlib.Core.List.{List}
 use mathlib.Core.Bool.{true}
@@ -12,22 +12,24 @@ use borrow.Author.Tests.{not-true, not-false}
 use lib.ListN.{length, drop}
 use denote.Ref.{now}
 use Rattle.format.specs.Number.{be}
-use Rattle.format.specs.String.{string, extent, isWhole}
+use Rattle.format.specs.String.{string, extent, isWhole, stringFault}
+use Rattle.format.specs.declared.Fault.{Fault}
 use Rattle.format.specs.declared.Extent.the-variants.{Whole}
 use Rattle.format.specs.Segments.{validSegments}
 use Rattle.format.specs.Fault.{fault, noFault}
 use Rattle.format.specs.Header.{pathField, pathPart, pathOf, pathFault}
+use Rattle.format.specs.Laws.Extents.{string-broken}
 use Rattle.format.specs.Laws.Paths.{path-not-whole, path-absolute, path-segments, path-kept}
 use Rattle.format.specs.Laws.Strings.{whole-string, whole-length, whole-is-whole, whole-within}
 use Rattle.strings.proofs.Tags.{tag-not-whole}
 use Rattle.tables.specs.Laws.{valid-header}
-use Rattle.tables.specs.Tables.{pathFieldOf, pathJudged, pathBroken}
+use Rattle.tables.specs.Tables.{pathFieldOf, pathJudged}
 use Rattle.tables.proofs.path.Statement.{statement}
 use Rattle.tables.proofs.path.Tie as tie
 
 -- a judged path, where a rule is broken and where none is
-judged-broken : (s : List ℕ) (i : ℕ) {x p : ℕ} → pathFault s i ≡ fault (suc x) p → pathJudged s i ≡ pathBroken (suc x) p
-judged-broken s i e = rw e
+judged-broken : (s : List ℕ) (i : ℕ) {v : Fault} → pathFault s i ≡ v → (v .number ≡ 0 → ⊥) → record { fault = v; start = 0; length = 0 } ≡ pathJudged s i
+judged-broken s i {v} e some = let more : v .number ≡ suc (v .number - 1) = omega arith in rw (e, more)
 
 judged-kept : (s : List ℕ) (i : ℕ) {a n : ℕ} → pathFault s i ≡ noFault → a ≡ be 4 s (pathField s i) → n ≡ length (pathOf s i)
     → record { fault = noFault; start = a; length = n } ≡ pathJudged s i
@@ -77,7 +79,7 @@ returns : tie.Need-returns
 returns c =
     let from = read (c .before .before) .before in
     let slash = rw (part-is from) at (c .before .if1 .taken) in
-    c .bad-path .ensures ∙ rw (field-is (from .before .before)) (sym (judged-broken _ _ (path-absolute _ _ slash)))
+    c .bad-path .ensures ∙ rw (field-is (from .before .before)) (judged-broken _ _ (path-absolute _ _ (whole (c .before .before)) slash) (λ z. omega arith))
 
 returns-2 : tie.Need-returns-2
 returns-2 c =
@@ -85,7 +87,7 @@ returns-2 c =
     let from = read arm .before in
     let no-slash = rw (part-is from) at (c .before .before .if1 .left) in
     let wrong = sym (segments-are arm) ∙ not-true _ (c .before .if2 .taken) in
-    c .bad-path2 .ensures ∙ rw (field-is (from .before .before)) (sym (judged-broken _ _ (path-segments _ _ (whole arm) no-slash wrong)))
+    c .bad-path2 .ensures ∙ rw (field-is (from .before .before)) (judged-broken _ _ (path-segments _ _ (whole arm) no-slash wrong) (λ z. omega arith))
 
 returns-3 : tie.Need-returns-3
 returns-3 c =
@@ -99,7 +101,9 @@ returns-4 : tie.Need-returns-4
 returns-4 c =
     let path-read = c .before .before in
     let broken = ap isWhole (sym (extent-is path-read)) ∙ tag-not-whole _ (c .before .match .keys2) in
-    c .bad-path3 .ensures ∙ rw (field-is (path-read .before .before .before)) (sym (judged-broken _ _ (path-not-whole _ _ broken)))
+    let at-field = ap (λ q. stringFault (extent 1023 (part (start path-read))) 6 q) (field-is (path-read .before .before .before)) in
+    let judged = c .judge .ensures ∙ ap (λ e. stringFault e 6 (path-read .before .before .before .path-field .result)) (extent-is path-read) ∙ at-field in
+    rw judged (judged-broken _ _ (path-not-whole _ _ broken) (string-broken _ _ _ broken))
 
 pub path-spec : {M : Type 1} → statement M
 path-spec =
