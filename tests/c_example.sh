@@ -10,6 +10,8 @@ g++ -std=c++11 $strict -o "$1/example_cpp" -x c++ bindings/c/example.c -x none "
 
 # The path of directory 1 begins at its zero byte.
 sh tests/patched.sh 104 '\000\000\000\161' > "$1/bad_path.cache"
+# The name of cow runs off the end.
+head -c 125 tests/caches/farm.cache > "$1/cut_off.cache"
 # The farm cache, at the limit and one byte above.
 cp tests/caches/farm.cache "$1/largest.cache"
 truncate -s 16777216 "$1/largest.cache"
@@ -27,6 +29,7 @@ answers() {
     answer "$1" tests/caches/farm.cache pig
     answer "$1" tests/caches/damaged.cache oat
     answer "$1" "$2/bad_path.cache" cow
+    answer "$1" "$2/cut_off.cache" cow
     answer "$1" "$2/largest.cache" oat
     answer "$1" "$2/too_large.cache" oat
     answer "$1" tests/caches/no_such.cache oat

@@ -13,10 +13,10 @@
  *       inside, or too long
  *    5  the hash is not wholly inside, or has    place: 4
  *       no bucket
- *    6  a path is unended, empty, too long or    place: its field in the
- *       begins with "/"                                 directory list
+ *    6  a path is empty, too long or begins      place: its field in the
+ *       with "/"                                        directory list
  *    7  a record is not wholly inside            place: the field that names it
- *    8  a name is unended, empty or too long     place: record + 4
+ *    8  a name is empty or too long              place: record + 4
  *    9  a name stands in another bucket than     place: record + 4
  *       its hash gives
  *   10  an image list is not wholly inside, or   place: record + 8
@@ -30,6 +30,7 @@
  *   15  no directory has that index              place: 0
  *   16  a piece of a path, cut at each "/", is   place: the path's field in the
  *       empty, "." or ".."                              directory list
+ *   17  a name or a path runs off the end        place: as with 8 or 6
  *   26  the position names no bucket, or its     place: 0
  *       count is more than the length less 11
  *   27  the flags are above 15, or the           place: 0
@@ -39,6 +40,11 @@
  *   31  not six words for each directory         place: 0
  *   32  a type above 2                           place: the word's index in
  *                                                       `directories`
+ *
+ * A name is too long from 256 bytes on, a path from 1,024 on. It runs off the
+ * end, as in a cache that was cut short, if the cache ends before its zero byte
+ * and before it is too long; so does one that begins at the end or beyond. On a
+ * path 17 is judged before the "/" of 6.
  *
  * What the caller owes:
  *  - a pointer that comes with a length points to that many bytes or words, and
@@ -63,10 +69,10 @@ extern "C" {
 
 /*
  * Checks the whole cache. With any number but 0, *directories and *icons are 0.
- * *opened is the number of icon records that were looked at. With an endless
- * chain in a cache of 16 MiB this takes tens of seconds, with one in 256 KiB
- * less than a second: do it in a thread of its own, or set a smaller limit of
- * length.
+ * *opened is the number of icon records that were looked at: with 17 it is 0 if
+ * a path runs off the end, and more if a name does. With an endless chain in a
+ * cache of 16 MiB this takes tens of seconds, with one in 256 KiB less than a
+ * second: do it in a thread of its own, or set a smaller limit of length.
  */
 uint32_t icon_cache_check(const uint8_t *cache, size_t cache_len,
                           size_t *place, size_t *directories, size_t *icons, size_t *opened);
@@ -116,14 +122,14 @@ uint32_t icon_cache_directory_path(const uint8_t *cache, size_t cache_len, size_
  * it came; 28 says that there are no further records. If the check accepts the
  * cache, a walk from 0 and 0 hands back each record once.
  *
- * The record and those passed on its chain have been judged by 7 to 11, so its
- * name lies inside: 1 to 255 bytes, which begin at the big-endian number of
- * four bytes at *record + 4, and a zero byte after them. Other records and the
- * paths are not judged: in a cache that the check refuses a walk may still hand
- * back records. No step answers 12. On a chain that never ends the records come
- * round and round, until the count is the cache's length less 10, and then the
- * answer is 26. On any cache a walk hands back at most twice as many records as
- * there are bytes.
+ * The record and those passed on its chain have been judged by 7 to 11 and 17,
+ * so its name lies inside: 1 to 255 bytes, which begin at the big-endian number
+ * of four bytes at *record + 4, and a zero byte after them. Other records and
+ * the paths are not judged: in a cache that the check refuses a walk may still
+ * hand back records. No step answers 12. On a chain that never ends the records
+ * come round and round, until the count is the cache's length less 10, and then
+ * the answer is 26. On any cache a walk hands back at most twice as many
+ * records as there are bytes.
  *
  * A step passes its chain anew: it opens at most *count + 1 records, those of a
  * later chain counted in. So to list a chain costs the square of its length,
