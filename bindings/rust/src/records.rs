@@ -34,10 +34,10 @@ pub struct Record<'a> {
 /// let names: Vec<&[u8]> = records(FARM_CACHE).map(|r| r.unwrap().name).collect();
 /// assert_eq!(names, [b"hen", b"oat", b"cow"]);
 ///
-/// // "cow" is the last string; without its zero byte it has no end.
+/// // "cow" is the last string; without its zero byte it runs off the end.
 /// let mut records = records(&FARM_CACHE[..125]).skip(2);
 /// let refusal = records.next().unwrap().unwrap_err();
-/// assert_eq!((refusal.number, refusal.place), (8, 56));
+/// assert_eq!((refusal.number, refusal.place), (17, 56));
 /// assert_eq!(records.next(), None);
 /// ```
 pub fn records(cache: &[u8]) -> Records<'_> {

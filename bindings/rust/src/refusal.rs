@@ -11,14 +11,15 @@ use std::fmt;
 /// assert_eq!(refusal.number, Refusal::ABSENT);
 /// assert_eq!(refusal.to_string(), "there is no icon of this name");
 ///
-/// // "cow" is the last string; without its zero byte it has no end.
+/// // "cow" is the last string; without its zero byte it runs off the end.
 /// let refusal = check(&FARM_CACHE[..125]).unwrap_err();
-/// assert_eq!((refusal.number, refusal.place), (8, 56));
-/// assert_eq!(refusal.to_string(), "this name is unended, empty or too long");
+/// assert_eq!((refusal.number, refusal.place), (17, 56));
+/// let sentence = "this name or directory path runs off the end: the cache was cut short";
+/// assert_eq!(refusal.to_string(), sentence);
 /// ```
 #[derive(Clone, Copy, Debug, PartialEq, Eq)]
 pub struct Refusal {
-    /// The answer number, 1 to 16, 26, 27 or 30 to 32.
+    /// The answer number, 1 to 17, 26, 27 or 30 to 32.
     pub number: u32,
     /// The offset of the fault in the cache, 0 where it has none. With
     /// [`BAD_TYPE`](Refusal::BAD_TYPE) alone it is no offset: it is the index of the
@@ -35,8 +36,8 @@ pub struct Refusal {
 impl Refusal {
     /// The cache is longer than [`LARGEST`](crate::LARGEST).
     pub const TOO_LARGE: u32 = 2;
-    /// The path of a directory is unended, empty, too long or begins with a
-    /// slash. Other directories may still be asked for.
+    /// The path of a directory is empty, too long or begins with a slash. Other
+    /// directories may still be asked for.
     pub const BAD_PATH: u32 = 6;
     /// A chain never ends.
     pub const ENDLESS_CHAIN: u32 = 12;
@@ -47,6 +48,29 @@ impl Refusal {
     /// A piece of a directory's path, cut at its slashes, is empty, "." or "..".
     /// Other directories may still be asked for.
     pub const BAD_SEGMENT: u32 = 16;
+    /// A name or the path of a directory runs off the end of the cache, as in one
+    /// that was cut short: the cache ends before its zero byte and before it is too
+    /// long, or it begins at the end or beyond. Other directories may still be asked
+    /// for.
+    ///
+    /// From [`directory`](crate::directory) it is a path, and from
+    /// [`lookup`](crate::lookup), [`Records`](crate::Records) and
+    /// [`pick`](crate::pick) a name. From [`check`](crate::check) it is a path if no
+    /// record was [opened](Refusal::opened), and else a name.
+    ///
+    /// ```
+    /// use icon_cache::{check, directory, Refusal, FARM_CACHE};
+    ///
+    /// let name = check(&FARM_CACHE[..125]).unwrap_err();
+    /// assert_eq!((name.number, name.opened), (Refusal::CUT_OFF, 3));
+    ///
+    /// // Of the path "16" one byte is left.
+    /// let cut = &FARM_CACHE[..109];
+    /// let path = check(cut).unwrap_err();
+    /// assert_eq!((path.number, path.opened), (Refusal::CUT_OFF, 0));
+    /// assert_eq!(directory(cut, 0), Err(path));
+    /// ```
+    pub const CUT_OFF: u32 = 17;
     /// The position names no bucket, or its count is more than the cache's
     /// length less 11.
     pub const BAD_POSITION: u32 = 26;
@@ -71,9 +95,9 @@ impl fmt::Display for Refusal {
             3 => "the cache is not of version 1.0",
             4 => "the directory list leaves the cache or is too long",
             5 => "the hash leaves the cache or has no buckets",
-            6 => "this directory path is unended, empty, too long or begins with a slash",
+            6 => "this directory path is empty, too long or begins with a slash",
             7 => "the record that this field names leaves the cache",
-            8 => "this name is unended, empty or too long",
+            8 => "this name is empty or too long",
             9 => "this name stands in another bucket than its hash gives",
             10 => "this image list leaves the cache or is too long",
             11 => "the directory index or the flags of this image are not allowed",
@@ -82,6 +106,7 @@ impl fmt::Display for Refusal {
             14 => "there is too little room for the images",
             15 => "there is no directory of this index",
             16 => "a piece of this directory path, cut at its slashes, is empty, \".\" or \"..\"",
+            17 => "this name or directory path runs off the end: the cache was cut short",
             26 => "the position asked for names no bucket, or its count is too large",
             27 => "the flags are above 15, or their numbering is unknown",
             30 => "there is no icon of this name",
@@ -112,11 +137,12 @@ mod tests {
     fn the_named_numbers_have_their_sentence() {
         for (number, words) in [
             (Refusal::TOO_LARGE, "longer than"),
-            (Refusal::BAD_PATH, "this directory path is unended"),
+            (Refusal::BAD_PATH, "this directory path is empty"),
             (Refusal::ENDLESS_CHAIN, "never ends"),
             (Refusal::NO_ROOM, "too little room"),
             (Refusal::NO_SUCH_DIRECTORY, "no directory"),
             (Refusal::BAD_SEGMENT, "a piece of this directory path"),
+            (Refusal::CUT_OFF, "runs off the end"),
             (Refusal::BAD_POSITION, "the position"),
             (Refusal::BAD_FLAGS, "the flags are above 15"),
             (Refusal::ABSENT, "no icon"),
@@ -129,9 +155,9 @@ mod tests {
 
     #[test]
     fn each_number_has_its_own_sentence() {
-        let numbers = (1..=16).chain([26, 27]).chain(30..=32);
+        let numbers = (1..=17).chain([26, 27]).chain(30..=32);
         let known: HashSet<_> = numbers.map(sentence).collect();
-        assert_eq!(known.len(), 21);
+        assert_eq!(known.len(), 22);
         assert!(!known.contains(&sentence(0)));
     }
 }

@@ -124,7 +124,9 @@ impl Theme {
             match directory(cache, index) {
                 Ok(path) => words.extend(self.words_of(path)),
                 Err(refusal) => match refusal.number {
-                    Refusal::BAD_PATH | Refusal::BAD_SEGMENT => words.extend(Self::FITS_NOTHING),
+                    Refusal::BAD_PATH | Refusal::BAD_SEGMENT | Refusal::CUT_OFF => {
+                        words.extend(Self::FITS_NOTHING)
+                    }
                     Refusal::NO_SUCH_DIRECTORY => break,
                     _ => return Err(refusal),
                 },

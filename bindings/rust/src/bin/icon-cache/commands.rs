@@ -90,6 +90,8 @@ fn check_file(output: &mut Output, file: &OsStr) -> Status {
                 output.line(&format!("{shown}: {accepted}: {icons}, {directories}"));
                 Status::Good
             }
+            // All paths are judged before a record is opened.
+            Err(refusal) if refusal.opened == 0 => say_path_refused(output, shown, &refusal),
             Err(refusal) => say_refused(output, shown, &refusal),
         },
     )
@@ -97,6 +99,10 @@ fn check_file(output: &mut Output, file: &OsStr) -> Status {
 
 fn say_refused(output: &mut Output, what: &str, refusal: &Refusal) -> Status {
     say_refused_for(output, what, &show::refusal(refusal))
+}
+
+fn say_path_refused(output: &mut Output, what: &str, refusal: &Refusal) -> Status {
+    say_refused_for(output, what, &show::path_refusal(refusal))
 }
 
 pub fn say_refused_for(output: &mut Output, what: &str, why: &str) -> Status {
@@ -153,7 +159,7 @@ fn say_image(output: &mut Output, cache: &[u8], image: &Image, numbering: Number
         Err(refusal) => {
             let index = image.directory;
             output.line(&format!("  directory {index}: {rest}"));
-            say_refused(output, &format!("  directory {index}"), &refusal)
+            say_path_refused(output, &format!("  directory {index}"), &refusal)
         }
     }
 }
@@ -173,8 +179,8 @@ fn list_directories(output: &mut Output, shown: &str, cache: &[u8]) -> Status {
         match icon_cache::directory(cache, index) {
             Ok(path) => output.line(&format!("{index}: {}", show::bytes(path))),
             Err(refusal) => match refusal.number {
-                Refusal::BAD_PATH | Refusal::BAD_SEGMENT => {
-                    status = say_refused(output, &index.to_string(), &refusal);
+                Refusal::BAD_PATH | Refusal::BAD_SEGMENT | Refusal::CUT_OFF => {
+                    status = say_path_refused(output, &index.to_string(), &refusal);
                 }
                 Refusal::NO_SUCH_DIRECTORY => break,
                 _ => return say_refused(output, shown, &refusal),

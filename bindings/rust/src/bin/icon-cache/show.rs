@@ -31,9 +31,26 @@ pub fn offset(offset: usize) -> String {
     format!("{offset} (0x{offset:X})")
 }
 
+/// A refusal where names are read.
 pub fn refusal(refusal: &Refusal) -> String {
+    refusal_of("name", refusal)
+}
+
+/// A refusal where paths are read.
+pub fn path_refusal(refusal: &Refusal) -> String {
+    refusal_of("directory path", refusal)
+}
+
+/// Rule 17 itself doesn't tell names from paths.
+fn refusal_of(string: &str, refusal: &Refusal) -> String {
+    let why = match refusal.number {
+        Refusal::CUT_OFF => {
+            format!("this {string} runs off the end of the file: the file was cut short")
+        }
+        _ => refusal.to_string(),
+    };
     let place = offset(refusal.place);
-    format!("rule {} at {place}: {refusal}", refusal.number)
+    format!("rule {} at {place}: {why}", refusal.number)
 }
 
 /// A position as the option that begins there.
