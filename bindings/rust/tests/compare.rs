@@ -231,6 +231,8 @@ impl<'a> Comparison<'a> {
         let pair = Pair::new(lent);
         let check = pair.check()?;
         self.counts.check.note(check.number);
+        let name_cut_off = check.number == 17 && check.opened > 0;
+        self.counts.meetings.note(Met::NameCutOff, name_cut_off);
         for (i, name) in self.queries(lent).iter().enumerate() {
             self.ask_lookup(&pair, name, i == 0)?;
             // The first name is mostly there.
@@ -293,7 +295,7 @@ impl<'a> Comparison<'a> {
         }
         let shared = step.number == 9 && records.contains(&(step.place - 4));
         self.counts.meetings.note(Met::SharedRecord, shared);
-        if (7..=11).contains(&step.number) {
+        if matches!(step.number, 7..=11 | 17) {
             self.step_behind_fault(cache, &step)?;
         }
         Ok(())
@@ -323,9 +325,13 @@ impl<'a> Comparison<'a> {
             meetings.note(Met::RecordAgain, behind && bucket == from.bucket);
         }
         if step.number == 28 {
-            meetings.note(Met::PathAtFault, cache.check.number == 6);
-            meetings.note(Met::SegmentAtFault, cache.check.number == 16);
-            meetings.note(Met::FaultBefore, (7..=12).contains(&cache.check.number));
+            // Before a fault of a path the check opens nothing.
+            let reader::Check { number, opened, .. } = cache.check;
+            meetings.note(Met::PathAtFault, number == 6);
+            meetings.note(Met::SegmentAtFault, number == 16);
+            meetings.note(Met::PathCutOff, number == 17 && opened == 0);
+            let of_record = (7..=12).contains(&number) || number == 17 && opened > 0;
+            meetings.note(Met::FaultBefore, of_record);
         }
         Ok(step)
     }

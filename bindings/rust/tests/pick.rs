@@ -232,7 +232,8 @@ fn refusals_of_the_lookup_come_first() {
             (farm_with(8, 126), "cow", (4, 8)),
             (farm_with(12, 0), "cow", (5, 4)),
             (farm_with(24, 126), "cow", (7, 24)),
-            (farm_with(56, 126), "cow", (8, 56)),
+            (farm_with(56, 125), "cow", (8, 56)),
+            (farm_with(56, 126), "cow", (17, 56)),
             (farm_with(20, 28), "a", (9, 32)),
             (farm_with(60, 126), "cow", (10, 60)),
             (farm_with(88, 0x0002_0004), "cow", (11, 88)),
@@ -244,13 +245,13 @@ fn refusals_of_the_lookup_come_first() {
     }
 }
 
-/// A path that leads elsewhere, and one that is no path.
+/// A path that leads elsewhere, an empty one, and one that runs off the end.
 #[test]
 fn paths_are_not_judged() {
     let words = [scalable(0, MAX); 2];
     let mut cache = FARM_CACHE.to_vec();
     cache[108..110].copy_from_slice(b"..");
-    for cache in [cache, farm_with(100, 126)] {
+    for cache in [cache, farm_with(100, 125), farm_with(100, 126)] {
         let answer = pick(&cache, "cow", 48, 1, words.as_flattened());
         assert_eq!(answer, (0, COW_0));
     }

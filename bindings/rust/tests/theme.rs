@@ -235,12 +235,14 @@ fn a_refused_header() {
     }
 }
 
-/// The other directory keeps its words.
+/// The other directory keeps its words. The path is empty, or it runs off the end.
 #[test]
 fn a_refused_path() {
     let described = [2, 64, 1, 64, 64, 2];
-    let words = words_for_farm(100, 126).unwrap();
-    assert_eq!(words, [FITS_NOTHING, described].as_flattened());
+    for path in [125, 126] {
+        let words = words_for_farm(100, path).unwrap();
+        assert_eq!(words, [FITS_NOTHING, described].as_flattened());
+    }
 
     let theme = Theme::parse(b"[Icon Theme]\nDirectories=..,64\n[..]\nSize=1\n[64]\nSize=64\n");
     let cache = with_directories(&[b"..", b"64", b"64/", b"\xff", b"64"]);

@@ -150,13 +150,28 @@ ewe: refused: rule 12 at 16 (0x10): the chain of this bucket never ends
     pick(&empty, &["cow", "--size=16"]).expect(1, expected);
 }
 
-/// It is not described, so its image is not picked.
+/// The name of cow runs off the end.
+#[test]
+fn pick_from_a_cache_that_was_cut_short() {
+    let test = "pick_from_a_cache_that_was_cut_short";
+    let theme = theme(test, &FARM_CACHE[..125], INDEX.as_bytes());
+    let expected = "\
+oat: picked: 16, flags 1 (bitmap suffix), image at 68 (0x44)
+cow: refused: rule 17 at 56 (0x38): this name runs off the end of the file: the file was cut short
+";
+    pick(&theme, &["oat", "cow", "--size=16"]).expect(1, expected);
+}
+
+/// It is not described, so its image is not picked. The path is empty, or it runs off
+/// the end.
 #[test]
 fn a_directory_with_a_refused_path() {
-    let cache = farm_with(104, 0x71);
-    let theme = theme("a_directory_with_a_refused_path", &cache, INDEX.as_bytes());
-    pick(&theme, &["cow", "--size=48"]).expect(1, &none_fits("cow", 48, 1));
-    pick(&theme, &["cow", "--size=16"]).expect(0, COW_16);
+    for path in [0x71, 126] {
+        let cache = farm_with(104, path);
+        let theme = theme("a_directory_with_a_refused_path", &cache, INDEX.as_bytes());
+        pick(&theme, &["cow", "--size=48"]).expect(1, &none_fits("cow", 48, 1));
+        pick(&theme, &["cow", "--size=16"]).expect(0, COW_16);
+    }
 }
 
 #[test]

@@ -34,7 +34,7 @@ impl OnPurpose {
     }
 }
 
-/// What steps and picks meet and their answer numbers do not tell.
+/// What the calls meet and their answer numbers do not tell.
 #[derive(Clone, Copy, Debug)]
 pub enum Met {
     /// A walk over all records of an accepted cache.
@@ -54,6 +54,10 @@ pub enum Met {
     PathAtFault,
     /// The end, in a cache with a path at fault by rule 16.
     SegmentAtFault,
+    /// The end, in a cache with a path at fault by rule 17.
+    PathCutOff,
+    /// A name at fault by rule 17, in the check.
+    NameCutOff,
     /// The end, in a cache with a lower bucket at fault.
     FaultBefore,
     /// The first image of a list, picked.
@@ -75,7 +79,7 @@ pub enum Met {
 }
 
 impl Met {
-    const ALL: [Met; 18] = [
+    const ALL: [Met; 20] = [
         Met::WholeWalk,
         Met::EmptyBuckets,
         Met::RecordAgain,
@@ -84,6 +88,8 @@ impl Met {
         Met::SharedRecord,
         Met::PathAtFault,
         Met::SegmentAtFault,
+        Met::PathCutOff,
+        Met::NameCutOff,
         Met::FaultBefore,
         Met::PickedFirst,
         Met::PickedLater,
@@ -193,12 +199,12 @@ impl Counts {
 
     /// The counts of each call, and the numbers it can answer.
     fn calls(&self) -> [(&str, &Answers, Vec<usize>); 6] {
-        let lookup = [0, 1, 2, 3, 4, 5, 7, 8, 9, 10, 11, 12, 13, 14, 30];
-        let directory = [0, 1, 2, 3, 4, 5, 6, 15, 16];
-        let list = [0, 1, 2, 3, 4, 5, 7, 8, 9, 10, 11, 26, 28];
-        let pick = [0, 1, 2, 3, 4, 5, 7, 8, 9, 10, 11, 12, 13, 30, 31, 32];
+        let lookup = [0, 1, 2, 3, 4, 5, 7, 8, 9, 10, 11, 12, 13, 14, 17, 30];
+        let directory = [0, 1, 2, 3, 4, 5, 6, 15, 16, 17];
+        let list = [0, 1, 2, 3, 4, 5, 7, 8, 9, 10, 11, 17, 26, 28];
+        let pick = [0, 1, 2, 3, 4, 5, 7, 8, 9, 10, 11, 12, 13, 17, 30, 31, 32];
         [
-            ("check", &self.check, (0..=12).chain([16]).collect()),
+            ("check", &self.check, (0..=12).chain([16, 17]).collect()),
             ("lookup", &self.lookup, lookup.into()),
             ("directory", &self.directory, directory.into()),
             ("path", &self.path, directory.into()),
@@ -220,7 +226,7 @@ impl Counts {
         let calls = self.calls();
         let heads = calls.each_ref().map(|(call, ..)| format!("{call:>12}"));
         println!("answer{}", heads.concat());
-        for number in (0..=16).chain([26, 28, 30, 31, 32]) {
+        for number in (0..=17).chain([26, 28, 30, 31, 32]) {
             let counts = calls.each_ref().map(|(_, answers, _)| answers.0[number]);
             let columns = counts.map(|count| format!("{count:>12}"));
             println!("{number:>6}{}", columns.concat());

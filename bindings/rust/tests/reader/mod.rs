@@ -104,11 +104,15 @@ fn count(cache: &[u8], offset: usize, entry: usize) -> Option<usize> {
     Some(count)
 }
 
-/// The string at `offset`, if it is ended, not empty and not too long.
-fn string(cache: &[u8], offset: usize, longest: usize) -> Option<&[u8]> {
-    let rest = cache.get(offset..)?;
-    let length = rest.iter().position(|&byte| byte == 0)?;
-    (1..=longest).contains(&length).then(|| &rest[..length])
+/// The string at `offset`. If it is empty or too long it is refused with the number
+/// given, and with 17 if it runs off the end before it is too long.
+fn string(cache: &[u8], offset: usize, longest: usize, refusal: u32) -> Result<&[u8], u32> {
+    let rest = cache.get(offset..).unwrap_or_default();
+    match rest.iter().position(|&byte| byte == 0) {
+        Some(length) if (1..=longest).contains(&length) => Ok(&rest[..length]),
+        None if rest.len() <= longest => Err(17),
+        _ => Err(refusal),
+    }
 }
 
 /// Each byte is a signed number: 128 to 255 count as -128 to -1.
@@ -171,15 +175,15 @@ fn tables(cache: &[u8]) -> Result<Tables, Fault> {
     })
 }
 
-/// Refusals 6 and 16, or the place and the length of the path.
+/// Refusals 6, 16 and 17, or the place and the length of the path.
 fn path(cache: &[u8], tables: &Tables, index: usize) -> Result<(usize, usize), Fault> {
     let field = tables.path_field(index);
     let start = number(cache, field, 4);
-    match string(cache, start, 1_023) {
-        Some(path) if path[0] == b'/' => Err(fault(6, field)),
-        Some(path) if !pieces_allowed(path) => Err(fault(16, field)),
-        Some(path) => Ok((start, path.len())),
-        None => Err(fault(6, field)),
+    match string(cache, start, 1_023, 6) {
+        Ok(path) if path[0] == b'/' => Err(fault(6, field)),
+        Ok(path) if !pieces_allowed(path) => Err(fault(16, field)),
+        Ok(path) => Ok((start, path.len())),
+        Err(refusal) => Err(fault(refusal, field)),
     }
 }
 
@@ -241,14 +245,14 @@ impl Icon<'_> {
     }
 }
 
-/// Refusals 8 to 11 on a record of this bucket's chain.
+/// Refusals 8 to 11 and 17 on a record of this bucket's chain.
 fn icon<'a>(
     cache: &'a [u8],
     tables: &Tables,
     bucket: usize,
     record: usize,
 ) -> Result<Icon<'a>, Fault> {
-    let name = string(cache, number(cache, record + 4, 4), 255).ok_or(fault(8, record + 4))?;
+    let name = name_of(cache, record).map_err(|refusal| fault(refusal, record + 4))?;
     if tables.bucket_of(name) != bucket {
         return Err(fault(9, record + 4));
     }
@@ -265,6 +269,10 @@ fn icon<'a>(
         image_list,
         images,
     })
+}
+
+fn name_of(cache: &[u8], record: usize) -> Result<&[u8], u32> {
+    string(cache, number(cache, record + 4, 4), 255, 8)
 }
 
 fn image_allowed(cache: &[u8], tables: &Tables, image: usize) -> bool {
@@ -475,7 +483,7 @@ fn record_after(
 
 /// The name of a record that was handed back.
 pub fn name(cache: &[u8], record: usize) -> &[u8] {
-    string(cache, number(cache, record + 4, 4), 255).expect("the record was judged")
+    name_of(cache, record).expect("the record was judged")
 }
 
 /// How many directories and buckets there are, if none of 1 to 5 stands.

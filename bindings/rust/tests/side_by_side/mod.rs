@@ -132,8 +132,7 @@ impl<'a> Pair<'a> {
         Ok(reader)
     }
 
-    /// Picks with these words lent. Not every test asks.
-    #[allow(dead_code)]
+    /// Picks with these words lent.
     pub fn pick(
         &self,
         name: &[u8],
