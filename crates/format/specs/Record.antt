@@ -1,4 +1,4 @@
--- An icon record and its images: document 01's tables. Rules 8 to 11, and 17.
+-- An icon record and its images: document 01's tables, and request 7. Rules 8 to 11, and 17.
 use Prim.Native.Nat.{ℕ, zero, suc, _+_, _*_, _%_}
 use mathlib.Core.List.{List, [], _∷_}
 use mathlib.Core.Bool.{Bool, _&&_}
@@ -59,8 +59,7 @@ imageFault s p = unless (validImage s p) 11 p
 abbrev pub imagesFault : ℕ → List ℕ → ℕ → Fault
 imagesFault m s p = firstFault (imageFault s) imageSize m p
 
--- of the record r on bucket k's chain: rules 8, 17 and 9 on its name, 10 and 11 on its images, and
--- all
+-- on the record r of bucket k's chain: rules 8, 17 and 9 (its name), 10 and 11 (its images), all
 unfoldable pub nameFault : List ℕ → ℕ → ℕ → Fault
 nameFault s k r =
     stringFault (nameExtent s r) 8 (nameField r)

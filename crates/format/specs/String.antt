@@ -1,5 +1,5 @@
--- Strings, and the hash of a name: document 01, 'The layout', and request 1. A string is given by
--- the part of the buffer from its offset on.
+-- Strings, and the hash of a name: document 01, 'The layout', and requests 1 and 7. A string is
+-- given by the part of the buffer from its offset on.
 use Prim.Native.Nat.{ℕ, zero, suc, _+_, _-_, _*_, _%_, _^_}
 use mathlib.Core.List.{List, [], _∷_, map}
 use mathlib.Core.Bool.{Bool, true, false, _&&_}

@@ -77,7 +77,7 @@ pub record HeldBefore (s : List ℕ) (k : ℕ) : Type 0 where
   pub tables-kept : TablesKept s
   pub lower : (j : ℕ) → j < k → (n : ℕ) × Holds s j n
 
--- the same, and every chain holds
+-- none of 1 to 6 stands, nor 16 or 17 on a path, and every chain holds
 abbrev pub Accepted : List ℕ → Type 0
 Accepted s = HeldBefore s (buckets s)
 

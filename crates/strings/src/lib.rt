@@ -1,6 +1,6 @@
 // Strings that end in a zero byte: what one is, as a name with its hash or as a path with its
-// segments; whether a name is the one asked for, and whether it may be asked for. A string is
-// handed over as the part of the buffer from its offset on.
+// segments; which rule it breaks by that; whether a name is the one asked for, and whether it may
+// be asked for. A string is handed over as the part of the buffer from its offset on.
 ghost use mathlib.Core.Path.{_≡_};
 ghost use mathlib.Core.Bool.{true, _&&_};
 ghost use Prim.Native.Nat.{_-_, _*_, _%_, _^_, _≤_};

@@ -189,8 +189,8 @@ pub fn path(cache: &[u8], t: Tables, i: u32) -> JudgedPath
     }
 }
 
-// The rule that the first wrong path breaks, 6 or 16, and its place, in a cache whose header breaks
-// no rule.
+// The rule that the first wrong path breaks, 6, 17 or 16, and its place, in a cache whose header
+// breaks no rule.
 pub fn paths(cache: &[u8], t: Tables) -> Fault
     requires { ⌜ TablesOf (now cache) t ⌝ }
     ensures { λ r. ⌜ r ≡ pathsFault (directories (now (cache .entry))) (now (cache .entry)) 0 ⌝ }

@@ -18,7 +18,7 @@ recordExamples =
     -- 1,023 bytes up to the end, without a zero byte; one more is too long
     checks (take 1051 (pathed 1024)) (refused 17 24 0) ∷
     checks (take 1052 (pathed 1024)) (refused 6 24 0) ∷
-    -- a path at the end and one past it; the first is no fault of the bytes before
+    -- a path that begins at the end, and one past it
     names (take 28 (pathed 1)) 0 (directoryIs 17 24) [] ∷
     names (put 24 200 (pathed 1)) 0 (directoryIs 17 24) [] ∷
     -- "/p" cut off, and a path that is too long and begins with a slash

@@ -18,15 +18,15 @@ module _ (s : List ℕ) (k r : ℕ) where
   name-unread e = orElse-first _ _ (string-broken _ _ _ e)
 
   module _ (whole : isWhole (nameExtent s r) ≡ true) where
-    read : nameFault s k r ≡ unless (ownBucket s k r) 9 (r + 4)
+    name-passes : nameFault s k r ≡ unless (ownBucket s k r) 9 (r + 4)
     unfolding nameFault
-    read = orElse-next _ _ (same-number (string-kept _ 8 (r + 4) whole))
+    name-passes = orElse-next _ _ (same-number (string-kept _ 8 (r + 4) whole))
 
     pub name-foreign : (bucketOf s (nameOf s r) ≡ k → ⊥) → nameFault s k r ≡ fault 9 (r + 4)
-    name-foreign h = read ∙ unless-broken _ _ _ (ne-eqb _ _ h)
+    name-foreign h = name-passes ∙ unless-broken _ _ _ (ne-eqb _ _ h)
 
     pub name-home : bucketOf s (nameOf s r) ≡ k → nameFault s k r ≡ noFault
-    name-home h = read ∙ ap (λ b. unless b 9 (r + 4)) (eq-eqb _ _ h)
+    name-home h = name-passes ∙ ap (λ b. unless b 9 (r + 4)) (eq-eqb _ _ h)
 
   pub record-misnamed : (nameFault s k r .number ≡ 0 → ⊥) → recordFault s k r ≡ nameFault s k r
   unfolding recordFault

@@ -1,6 +1,6 @@
 -- `records::judge_name` meets its contract: what each test asks is what a rule of the definition
 -- asks, and the laws `name-unread`, `name-foreign` and `name-home` say which rule is the first to
--- be broken. A name that is known keeps both by the `requires`.
+-- be broken. A name that is known keeps all three by the `requires`.
 use Prim.Native.Nat.{_+_, _%_}
 use mathlib.Core.Path.{_≡_, ap, sym, _∙_}
 use mathlib.Core.Bool.{true}

@@ -16,7 +16,7 @@ use Rattle.format.specs.String.{string, extent, isWhole, stringFault}
 use Rattle.format.specs.declared.Fault.{Fault}
 use Rattle.format.specs.declared.Extent.the-variants.{Whole}
 use Rattle.format.specs.Segments.{validSegments}
-use Rattle.format.specs.Fault.{fault, noFault}
+use Rattle.format.specs.Fault.{noFault}
 use Rattle.format.specs.Header.{pathField, pathPart, pathOf, pathFault}
 use Rattle.format.specs.Laws.Extents.{string-broken}
 use Rattle.format.specs.Laws.Paths.{path-not-whole, path-absolute, path-segments, path-kept}
