@@ -41,10 +41,10 @@
  *   32  a type above 2                           place: the word's index in
  *                                                       `directories`
  *
- * A name is too long from 256 bytes on, a path from 1,024 on. It runs off the
- * end, as in a cache that was cut short, if the cache ends before its zero byte
- * and before it is too long; so does one that begins at the end or beyond. On a
- * path 17 is judged before the "/" of 6.
+ * A name is too long from 256 bytes on, a path from 1,024 on. Either runs off
+ * the end, as in a cache that was cut short, if the cache ends before the
+ * string's zero byte and before the string is too long; so does one that begins
+ * at the end or beyond. On a path 17 is judged before the "/" of 6.
  *
  * What the caller owes:
  *  - a pointer that comes with a length points to that many bytes or words, and

@@ -14,7 +14,7 @@ use std::fmt;
 /// // "cow" is the last string; without its zero byte it runs off the end.
 /// let refusal = check(&FARM_CACHE[..125]).unwrap_err();
 /// assert_eq!((refusal.number, refusal.place), (17, 56));
-/// let sentence = "this name or directory path runs off the end: the cache was cut short";
+/// let sentence = "this name or directory path runs off the end: the cache may be cut short";
 /// assert_eq!(refusal.to_string(), sentence);
 /// ```
 #[derive(Clone, Copy, Debug, PartialEq, Eq)]
@@ -49,9 +49,9 @@ impl Refusal {
     /// Other directories may still be asked for.
     pub const BAD_SEGMENT: u32 = 16;
     /// A name or the path of a directory runs off the end of the cache, as in one
-    /// that was cut short: the cache ends before its zero byte and before it is too
-    /// long, or it begins at the end or beyond. Other directories may still be asked
-    /// for.
+    /// that was cut short: the cache ends before the string's zero byte and before
+    /// the string is too long, or the string begins at the end or beyond. Where it is
+    /// a path, other directories may still be asked for.
     ///
     /// From [`directory`](crate::directory) it is a path, and from
     /// [`lookup`](crate::lookup), [`Records`](crate::Records) and
@@ -106,7 +106,7 @@ impl fmt::Display for Refusal {
             14 => "there is too little room for the images",
             15 => "there is no directory of this index",
             16 => "a piece of this directory path, cut at its slashes, is empty, \".\" or \"..\"",
-            17 => "this name or directory path runs off the end: the cache was cut short",
+            17 => "this name or directory path runs off the end: the cache may be cut short",
             26 => "the position asked for names no bucket, or its count is too large",
             27 => "the flags are above 15, or their numbering is unknown",
             30 => "there is no icon of this name",

@@ -325,7 +325,7 @@ impl<'a> Comparison<'a> {
             meetings.note(Met::RecordAgain, behind && bucket == from.bucket);
         }
         if step.number == 28 {
-            // Before a fault of a path the check opens nothing.
+            // With a path at fault the check has opened nothing.
             let reader::Check { number, opened, .. } = cache.check;
             meetings.note(Met::PathAtFault, number == 6);
             meetings.note(Met::SegmentAtFault, number == 16);

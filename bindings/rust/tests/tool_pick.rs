@@ -157,7 +157,7 @@ fn pick_from_a_cache_that_was_cut_short() {
     let theme = theme(test, &FARM_CACHE[..125], INDEX.as_bytes());
     let expected = "\
 oat: picked: 16, flags 1 (bitmap suffix), image at 68 (0x44)
-cow: refused: rule 17 at 56 (0x38): this name runs off the end of the file: the file was cut short
+cow: refused: rule 17 at 56 (0x38): this name runs off the end of the file: the file may be cut short
 ";
     pick(&theme, &["oat", "cow", "--size=16"]).expect(1, expected);
 }

@@ -45,7 +45,7 @@ pub fn path_refusal(refusal: &Refusal) -> String {
 fn refusal_of(string: &str, refusal: &Refusal) -> String {
     let why = match refusal.number {
         Refusal::CUT_OFF => {
-            format!("this {string} runs off the end of the file: the file was cut short")
+            format!("this {string} runs off the end of the file: the file may be cut short")
         }
         _ => refusal.to_string(),
     };
