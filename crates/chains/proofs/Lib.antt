@@ -1,1 +1,5 @@
 pub mod Stops
+pub mod Way
+pub mod Back
+pub mod Stretches
+pub mod Searching

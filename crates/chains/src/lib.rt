@@ -1,22 +1,27 @@
 // A bucket's chain: what its fields lead to, the walk along it, and the search for a name on it.
 ghost use mathlib.Core.Path.{_≡_};
 ghost use mathlib.Core.Bool.{true, false};
-ghost use Prim.Native.Nat.{_+_, _≤_, _<_};
+ghost use Prim.Native.Nat.{ℕ, _+_, _-_, _^_, _≤_, _<_};
 ghost use lib.ListN.{length};
 ghost use Rattle.format.specs.String.{allowed};
 ghost use Rattle.format.specs.Header.{buckets};
 ghost use Rattle.format.specs.Record.{bucketOf};
 ghost use Rattle.format.specs.Chain.{chainOf};
+ghost use Rattle.format.specs.Words.{KeepsBelow, NoneBelow};
 ghost use Rattle.format.specs.Chain as definition;
 ghost use Rattle.format.specs.Call.{searchBucket};
 ghost use Rattle.format.specs.Call as calls;
 ghost use Rattle.tables.specs.Tables.{TablesOf};
-ghost use Rattle.chains.specs.Walk.{seen, Seeks, walked};
+ghost use Rattle.rounds.specs.Stepping.{InsideBelow};
+ghost use Rattle.rounds.specs.Stepping as rounds;
+ghost use Rattle.chains.specs.Walk.{seen, Seeks, walked, steppedTo, Stands, Further, Judged, SeeksTo};
 use bigendian::u32_at;
 use format::Found;
 use format::Next;
 use records::bears;
 use records::judge;
+use rounds::ahead;
+use rounds::turning;
 use tables::Tables;
 use tables::bucket_field;
 
@@ -28,6 +33,14 @@ pub struct Walked {
 
 // What a field leads to, and whether that is a record that bears the name looked for.
 struct Seen {
+    next: Next,
+    bears: bool,
+}
+
+// How many records of a chain were opened, what comes next, and whether that is a record that bears
+// the name looked for.
+struct Sought {
+    opened: usize,
     next: Next,
     bears: bool,
 }
@@ -96,15 +109,21 @@ fn opens(next: Next) -> usize
     }
 }
 
-// The walk along the chain of `bucket`, past at most `most` records: `opened` is stepped for each
-// record, and stops an endless chain.
-pub fn walk(cache: &[u8], t: Tables, bucket: u32, most: usize) -> Walked
+// The walk along the chain of `bucket` from `field` on, where it stands after `opened` records,
+// past at most `most` in all: `opened` is stepped for each record, and stops an endless chain.
+fn pass(
+    cache: &[u8],
+    t: Tables,
+    bucket: u32,
+    mut field: usize,
+    mut opened: usize,
+    most: usize,
+) -> Walked
     requires { ⌜ TablesOf (now cache) t ⌝ }
-    requires { ⌜ (bucket < buckets (now cache)) × (most < length (now cache)) ⌝ }
+    requires { ⌜ Stands (now cache) bucket field opened ⌝ }
+    requires { ⌜ (opened ≤ most) × (most < length (now cache)) ⌝ }
     ensures { λ r. ⌜ r ≡ walked (chainOf (now (cache .entry)) bucket most) ⌝ }
 {
-    let mut field = bucket_field(t, bucket);
-    let mut opened = 0;
     loop {
         let after = follow(cache, t, bucket, field);
         opened += opens(after);
@@ -118,8 +137,111 @@ pub fn walk(cache: &[u8], t: Tables, bucket: u32, most: usize) -> Walked
     }
 }
 
+// The walk along the chain of `bucket`, past at most `most` records, each judged as often as it is
+// met: so callers pass no more than `further` records by it, and then call `go_on`. The two are
+// apart so that the judging is inlined into the loop of each.
+pub fn walk(cache: &[u8], t: Tables, bucket: u32, most: usize) -> Walked
+    requires { ⌜ TablesOf (now cache) t ⌝ }
+    requires { ⌜ (bucket < buckets (now cache)) × (most < length (now cache)) ⌝ }
+    ensures { λ r. ⌜ r ≡ walked (chainOf (now (cache .entry)) bucket most) ⌝ }
+{
+    let field = bucket_field(t, bucket);
+    pass(cache, t, bucket, field, 0, most)
+}
+
+// The nearer of `far` and `most`, both from `opened` on.
+fn nearer(opened: usize, far: usize, most: usize) -> usize
+    requires { ⌜ (opened ≤ far) × (opened ≤ most) ⌝ }
+    ensures { λ r. ⌜ Further opened most r ⌝ }
+{
+    if most < far { most } else { far }
+}
+
+// So many records are passed before it is looked ahead whether a chain comes back.
+const SHORT: usize = 255;
+
+// How far a walk goes after `opened` records before it looks ahead, and no further than `most`.
+pub fn further(opened: usize, most: usize) -> usize
+    requires { ⌜ (opened ≤ most) × (most < 2 ^ 32) ⌝ }
+    ensures { λ r. ⌜ Further opened most r ⌝ }
+{
+    nearer(opened, opened + SHORT, most)
+}
+
+// So many times as far as it has come a walk looks ahead. A look that sees no end of a chain costs
+// no more than so many steps for each record that was opened.
+const SIGHT: usize = 16;
+
+// How far a walk looks ahead after `opened` records, and no further than `most`.
+fn horizon(opened: usize, most: usize) -> usize
+    requires { ⌜ (opened ≤ most) × (most < 2 ^ 32) ⌝ }
+    ensures { λ r. ⌜ Further opened most r ⌝ }
+{
+    nearer(opened, opened + SIGHT * opened, most)
+}
+
+// The rest of a walk that has come back to a record, and so has judged all that it will meet, or
+// that may open no more: from `field` on the records are stepped, and opened one by one.
+fn go_round(cache: &[u8], mut field: usize, mut opened: usize, most: usize) -> Walked
+    requires { ⌜ (opened ≤ most + 1) × (most < length (now cache)) × (length (now cache) ≤ 2 ^ 24) ⌝ }
+    requires { ⌜ InsideBelow (now cache) field (most + 1 - opened) ⌝ }
+    ensures { λ r. ⌜ r ≡ steppedTo (most + 1) (rounds.ahead (now (cache .entry)) field (most + 1 - opened)) ⌝ }
+{
+    while opened <= most {
+        field = u32_at(cache, field) as usize;
+        opened += 1;
+    }
+    let after = Next::Record(field);
+    Walked { opened, after }
+}
+
+// The whole of a walk past at most `most` records that is judged as far as it must be.
+pub fn finish(cache: &[u8], chain: Walked, most: usize) -> Walked
+    requires { ⌜ (most < length (now cache)) × (length (now cache) ≤ 2 ^ 24) ⌝ }
+    requires { ⌜ ((k : ℕ) × Judged (now cache) k most chain) ⌝ }
+    ensures { λ r. ⌜ ((k : ℕ) → Judged (now (cache .entry)) k most chain → r ≡ walked (chainOf (now (cache .entry)) k most)) ⌝ }
+{
+    let after = chain.after;
+    let Next::Record(record) = after else {
+        return chain;
+    };
+    go_round(cache, record, chain.opened, most)
+}
+
+// The walk along a chain that goes on after `passed` records, past at most `most` in all: it is
+// looked ahead whether the chain comes back, and its records are judged up to there, or as far as
+// was looked.
+pub fn go_on(cache: &[u8], t: Tables, bucket: u32, passed: usize, most: usize) -> Walked
+    requires { ⌜ TablesOf (now cache) t ⌝ }
+    requires { ⌜ (bucket < buckets (now cache)) × (passed ≤ most) × (most < length (now cache)) ⌝ }
+    requires { ⌜ KeepsBelow (now cache) bucket (passed + 1) ⌝ }
+    ensures { λ r. ⌜ Judged (now (cache .entry)) bucket most r ⌝ }
+{
+    let first = bucket_field(t, bucket);
+    let mut opened = passed + 1;
+    let mut field = ahead(cache, first, opened);
+    let mut stop = passed;
+    let mut far = passed;
+    loop {
+        // Judged up to `stop`: no record is to come that was not met, or none may be opened.
+        if stop == most || stop < far {
+            let after = Next::Record(field);
+            return Walked { opened, after };
+        }
+        far = horizon(opened, most);
+        stop = turning(cache, first, opened, field, far);
+        let chain = pass(cache, t, bucket, field, opened, stop);
+        opened = chain.opened;
+        let after = chain.after;
+        let Next::Record(record) = after else {
+            return chain;
+        };
+        field = record;
+    }
+}
+
 // The answer where none of the records before `next` bears the name; `field` is the bucket's.
-fn unnamed(field: usize, next: Next, opened: usize) -> Found
+pub fn unnamed(field: usize, next: Next, opened: usize) -> Found
     ensures { λ r. ⌜ r ≡ calls.unnamed field next opened ⌝ }
 {
     match next {
@@ -141,6 +263,52 @@ fn unnamed(field: usize, next: Next, opened: usize) -> Found
     }
 }
 
+// The search for `name`, a name of `bucket`, from `field` on, where it stands after `opened`
+// records without it, past at most `stop` in all.
+fn stretch(
+    cache: &[u8],
+    t: Tables,
+    bucket: u32,
+    name: &[u8],
+    mut field: usize,
+    mut opened: usize,
+    stop: usize,
+) -> Sought
+    requires { ⌜ TablesOf (now cache) t ⌝ }
+    requires { ⌜ (allowed (now name) ≡ true) × (bucketOf (now cache) (now name) ≡ bucket) ⌝ }
+    requires { ⌜ Stands (now cache) bucket field opened × NoneBelow (now cache) (now name) bucket opened ⌝ }
+    requires { ⌜ (opened ≤ stop) × (stop < length (now cache)) ⌝ }
+    ensures { λ r. ⌜ SeeksTo (now (cache .entry)) (now (name .entry)) bucket stop r ⌝ }
+{
+    loop {
+        let seen = seek(cache, t, bucket, field, name);
+        let next = seen.next;
+        opened += opens(next);
+        let Next::Record(record) = next else {
+            return Sought {
+                opened,
+                next,
+                bears: false,
+            };
+        };
+        if seen.bears {
+            return Sought {
+                opened,
+                next,
+                bears: true,
+            };
+        }
+        if stop < opened {
+            return Sought {
+                opened,
+                next,
+                bears: false,
+            };
+        }
+        field = record;
+    }
+}
+
 // The first record that bears `name`, a name of `bucket`, on its chain.
 pub fn search(cache: &[u8], t: Tables, bucket: u32, name: &[u8]) -> Found
     requires { ⌜ TablesOf (now cache) t ⌝ }
@@ -148,27 +316,34 @@ pub fn search(cache: &[u8], t: Tables, bucket: u32, name: &[u8]) -> Found
     requires { ⌜ (allowed (now name) ≡ true) × (bucketOf (now cache) (now name) ≡ bucket) ⌝ }
     ensures { λ r. ⌜ r ≡ searchBucket (now (cache .entry)) (now (name .entry)) bucket ⌝ }
 {
-    let limit = cache.len() - 10;
+    let most = cache.len() - 11;
     let first = bucket_field(t, bucket);
     let mut field = first;
     let mut opened = 0;
+    let mut stop = further(0, most);
+    let mut far = stop;
     loop {
-        let seen = seek(cache, t, bucket, field, name);
-        let next = seen.next;
-        opened += opens(next);
+        let sought = stretch(cache, t, bucket, name, field, opened, stop);
+        let next = sought.next;
+        opened = sought.opened;
         let Next::Record(record) = next else {
             return unnamed(first, next, opened);
         };
-        if opened == limit {
-            return unnamed(first, next, opened);
-        }
-        if seen.bears {
+        if sought.bears {
             return Found {
                 number: 0,
                 place: record,
                 opened,
             };
         }
+        // No record is to come that was not met, or none may be opened.
+        if stop == most || stop < far {
+            let rest = go_round(cache, record, opened, most);
+            let last = rest.after;
+            return unnamed(first, last, rest.opened);
+        }
+        far = horizon(opened, most);
+        stop = turning(cache, first, opened, record, far);
         field = record;
     }
 }

@@ -1,128 +1,129 @@
--- `chains::search` meets its contract. The loop's invariant: the rest equals the whole, the search
--- along the chain from the present field on, with the records opened before it, answers as the
--- search from the bucket's field on.
-use Prim.Native.Nat.{ℕ, suc, _+_, _-_, _≤_, _<_}
-use mathlib.Core.Path.{_≡_, sym, ap, _∙_}
-use mathlib.Core.List.{List, []}
-use mathlib.Core.Bool.{true, false}
-use native.Mathlib.Nat.{zero-add, sub-zero}
+-- `chains::search` meets its contract. The loop's invariant is `Searching`, and each way out is one
+-- of its laws.
+use Prim.Native.Nat.{suc, _+_, _-_, _≤_, _<_}
+use mathlib.Core.Path.{_≡_, ap, _∙_}
+use mathlib.Core.Logic.{_⊎_, ⊎-elim, inl, inr}
 use native.Mathlib.Omega.{arith}
 use borrow.Author.Needs.{needs}
+use borrow.Author.Tests.{ltb-true}
 use lib.ListN.{length}
 use denote.Ref.{now}
-use Rattle.format.specs.Chain.{follow, Chain, chained, chain, mostRecords, opens, openedOn}
 use Rattle.format.specs.Header.{bucketField}
-use Rattle.format.specs.Record.{nameOf}
-use Rattle.format.specs.String.{sameBytes}
-use Rattle.format.specs.Answer.{found}
-use Rattle.format.specs.Call.{unnamed, firstNamed, searchBucket}
-use Rattle.format.specs.Laws.Follow.{opens-one, chain-full, chain-next, follow-keeps}
-use Rattle.format.specs.Laws.Names.{same-equal, other-unequal}
-use Rattle.format.specs.Laws.Search.{search-met, search-next}
-use Rattle.format.specs.declared.Found.{Found}
-use Rattle.format.specs.declared.Next.{Next}
-use Rattle.format.specs.declared.Next.the-variants.{Record}
-use Rattle.tables.specs.Laws.{valid-header, same-field, field-inside}
-use Rattle.chains.proofs.Stops.{chain-stops}
+use Rattle.format.specs.Chain.{mostRecords}
+use Rattle.format.specs.Answer.{unfound}
+use Rattle.format.specs.Call.{unnamed}
+use Rattle.tables.specs.Laws.{valid-header, same-field}
+use Rattle.chains.specs.Walk.{Stands}
+use Rattle.chains.specs.declared.Walked.{Walked}
+use Rattle.chains.proofs.Way.{stands-first, stepped-inside, stepped-at}
+use Rattle.chains.proofs.Stretches.{sought-stands, sought-found, sought-last}
+use Rattle.chains.proofs.Searching.{Searching, searching-first, searching-stops, searching-on, searching-steps, searching-lasts}
 use Rattle.chains.proofs.search.Statement.{statement}
 use Rattle.chains.proofs.search.Tie as tie
 
--- the search along a chain, with o records opened before it
-abbrev searchChain : List ℕ → List ℕ → ℕ → Chain → ℕ → Found
-searchChain s name k c o = firstNamed s name (c .records) o (unnamed (bucketField s k) (c .after) (o + openedOn c))
-
 abbrev Inv-loop : tie.InvT-loop
-Inv-loop cache t bucket name limit first field₀ opened₀ field opened =
-    (field + 4 ≤ length cache)
-    × (opened ≤ mostRecords cache)
-    × (searchChain cache name bucket (chain (mostRecords cache - opened) cache bucket field) opened ≡ searchBucket cache name bucket)
+Inv-loop cache t bucket name most first field₀ opened₀ stop₀ far₀ field opened stop far = Searching cache name bucket field opened stop far
 
 abbrev μ-loop : tie.MeasureT-loop
-μ-loop cache t bucket name limit first field₀ opened₀ field opened = limit - opened
+μ-loop cache t bucket name most first field₀ opened₀ stop₀ far₀ field opened stop far = suc most - stop
 
-module _ (s name : List ℕ) (k f n o : ℕ) where
-  -- a turn of the search: it stops, finds the name, or goes on
-  stopped : {l : Next} → chain n s k f ≡ chained [] l → unnamed (bucketField s k) l (o + opens l) ≡ searchChain s name k (chain n s k f) o
-  unfolding firstNamed
-  stopped e = rw (e, zero-add)
-
-  found-here : {r : ℕ} → follow s k f ≡ Record r → sameBytes (nameOf s r) name ≡ true → found r (o + 1) ≡ searchChain s name k (chain (suc n) s k f) o
-  found-here {r} e same = rw (chain-next s k f n e) (sym (search-met s name r _ o _ (same-equal _ _ same)))
-
-  goes-on : {r : ℕ} → follow s k f ≡ Record r → sameBytes (nameOf s r) name ≡ false
-      → searchChain s name k (chain n s k r) (o + 1) ≡ searchChain s name k (chain (suc n) s k f) o
-  goes-on {r} e other =
-      let rest = chain n s k r in
-      let more : o + (suc (length (rest .records)) + opens (rest .after)) ≡ o + 1 + openedOn rest = omega arith in
-      rw (chain-next s k f n e, more) (sym (search-next s name r _ o _ (other-unequal _ _ other)))
+first : (c : tie.After-bucket-field Inv-loop μ-loop)
+    → let a = c .before .before .before .args in Stands (now (a .cache)) (a .bucket) (c .bucket-field .result) 0
+first c = let pre = c .before .before .before .pre in stands-first (pre .0) (pre .1 .0) (c .bucket-field .ensures)
 
 field-is : (c : tie.After-bucket-field Inv-loop μ-loop)
     → let a = c .before .before .before .args in c .bucket-field .result ≡ bucketField (now (a .cache)) (a .bucket)
 field-is c = c .bucket-field .ensures ∙ same-field (c .before .before .before .pre .0) _
 
-loop-holds : tie.Need-loop-holds Inv-loop μ-loop
-unfolding searchBucket
-loop-holds c =
-    let start = c .before .before .before in
-    (omega (arith, field-is c, field-inside (start .pre .0) _ (start .pre .1 .0)), omega arith, rw (field-is c, sub-zero, zero-add))
-
--- a turn that leads to a record: where it began, what its field leads to, that it opens one, and
--- whether that bears the name
-abbrev turn : tie.After-known-told Inv-loop μ-loop → tie.At-loop Inv-loop μ-loop
-turn c = c .before .before .before .before .before
-
 abbrev start : tie.At-loop Inv-loop μ-loop → tie.Start Inv-loop μ-loop
-start l = l .before .before .before .before
+start l = l .before .before .before .before .before
 
-module _ (c : tie.After-known-told Inv-loop μ-loop) where
-  led : let a = start (turn c) .args in follow (now (a .cache)) (a .bucket) (turn c .loop .field) ≡ Record (c .before .next .given .0 .0)
-  led = sym (c .before .before .before .before .seek .ensures .next) ∙ c .before .next .given .1
+small : (l : tie.At-loop Inv-loop μ-loop) → length (now (start l .args .cache)) ≤ 16777216
+small l = omega (arith, valid-header (start l .pre .0))
 
-  one : c .before .before .before .opens .result ≡ 1
-  one = c .before .before .before .opens .ensures ∙ ap opens (c .before .next .given .1)
-
-  bears : let a = start (turn c) .args in
-      c .before .before .before .before .seek .result .bears ≡ sameBytes (nameOf (now (a .cache)) (c .before .next .given .0 .0)) (now (a .name))
-  bears = c .before .before .before .before .seek .ensures .bears _ (c .before .next .given .1)
-
-  -- one record more may be passed
-  more : turn c .loop .opened < mostRecords (now (start (turn c) .args .cache)) →
-      let l = turn c in
-      let a = start l .args in
-      let s = now (a .cache) in
-      searchChain s (now (a .name)) (a .bucket) (chain (suc (mostRecords s - (l .loop .opened + 1))) s (a .bucket) (l .loop .field)) (l .loop .opened)
-      ≡ searchBucket s (now (a .name)) (a .bucket)
-  more few =
-      let most = mostRecords (now (start (turn c) .args .cache)) in
-      let left : most - turn c .loop .opened ≡ suc (most - (turn c .loop .opened + 1)) = omega arith in
-      rw left at (turn c .loop .inv .2)
+stretch-requires : tie.Need-stretch-requires Inv-loop μ-loop
+stretch-requires c κs =
+    let pre = start c .pre in
+    let inv = c .loop .inv in
+    (pre .0, (pre .1 .1, ((inv .stands, inv .none), (inv .passed, omega (arith, inv .few, valid-header (pre .0))))))
 
 returns : tie.Need-returns Inv-loop μ-loop
 returns c =
-    let step = c .before .before in
-    let l = step .before .before in
-    let stops = chain-stops _ _ _ _ _ (c .before .match .keys2) (sym (step .before .seek .ensures .next)) in
-    c .unnamed .ensures ∙ rw (field-is (l .before), step .opens .ensures) (stopped _ _ _ _ _ _ stops ∙ l .loop .inv .2)
+    let st = c .before .before in
+    let l = st .before in
+    let stops = searching-stops (l .loop .inv) (st .stretch .ensures) (c .before .match .keys2) in
+    c .unnamed .ensures ∙ ap (λ f. unnamed f (st .stretch .result .next) (st .stretch .result .opened)) (field-is (l .before .before)) ∙ stops
 
 returns-2 : tie.Need-returns-2 Inv-loop μ-loop
 returns-2 c =
-    let told = c .before .before in
-    let l = turn told in
-    let full : mostRecords (now (start l .args .cache)) - l .loop .opened ≡ 0 = omega (arith, one told) in
-    let stops = chain-full _ _ _ ∙ ap (chained []) (led told) in
-    c .unnamed2 .ensures ∙ rw (one told, field-is (l .before)) (stopped _ _ _ _ 0 _ stops ∙ rw full at (l .loop .inv .2))
+    let told = c .before in
+    let st = told .before .before .before in
+    sought-found (st .stretch .ensures) (small (st .before)) (told .before .next .given .1) (c .if1 .taken)
+
+-- a record that does not bear the name, the last that may be looked at
+abbrev stretch : tie.Else1 Inv-loop μ-loop → tie.After-stretch Inv-loop μ-loop
+stretch c = c .before .before .before .before
+
+abbrev turn : tie.Else1 Inv-loop μ-loop → tie.At-loop Inv-loop μ-loop
+turn c = stretch c .before
+
+last : (c : tie.Else1 Inv-loop μ-loop) → stretch c .stretch .result .opened ≡ turn c .loop .stop + 1
+last c = sought-last (stretch c .stretch .ensures) (small (turn c)) (c .before .before .next .given .1) (c .if1 .left)
+
+-- the chain has come back, or is followed no further
+over : (c : tie.Joined2 Inv-loop μ-loop) →
+    let l = turn (c .before) in (l .loop .stop ≡ mostRecords (now (start l .args .cache))) ⊎ (l .loop .stop < l .loop .far)
+over c = ⊎-elim (λ then. inl (then .taken)) (λ else. inr (ltb-true _ _ (else .1 .taken))) (c .if2 .came)
+
+go-round-requires : tie.Need-go-round-requires Inv-loop μ-loop
+go-round-requires c κs =
+    let e = c .before in
+    let l = turn e in
+    let steps = searching-steps (l .loop .inv) (stretch e .stretch .ensures) (small l) (e .before .before .next .given .1) (e .if1 .left) (over c) in
+    ((omega (arith, last e, l .loop .inv .few), omega (arith, valid-header (start l .pre .0)), small l), steps)
 
 returns-3 : tie.Need-returns-3 Inv-loop μ-loop
 returns-3 c =
-    let told = c .before .before in
-    let rest = more told (omega (arith, one told, valid-header (start (turn told) .pre .0))) in
-    rw (one told) (found-here _ _ _ _ _ _ (led told) (sym (bears told) ∙ c .if2 .taken) ∙ rest)
+    let joined = c .before .before in
+    let e = joined .before in
+    let l = turn e in
+    let bucket = l .before .before in
+    let lasts = searching-lasts (l .loop .inv) (stretch e .stretch .ensures) (small l) (e .before .before .next .given .1) (e .if1 .left) (over joined) in
+    c .unnamed2 .ensures
+    ∙ ap (λ (a : Walked). unnamed (bucket .bucket-field .result) (a .after) (a .opened)) (c .before .go-round .ensures)
+    ∙ ap (λ f. unfound 12 f (mostRecords (now (start l .args .cache)) + 1)) (field-is bucket)
+    ∙ lasts
+
+-- else it goes further, but no further than it may
+fewer : (c : tie.Else3 Inv-loop μ-loop) →
+    let e = c .before .before in stretch e .stretch .result .opened ≤ mostRecords (now (start (turn e) .args .cache))
+fewer c = let e = c .before .before in omega (arith, last e, turn e .loop .inv .few, c .before .if2 .left)
+
+-- it stands at the record
+stands : (c : tie.Else1 Inv-loop μ-loop) →
+    let a = start (turn c) .args in Stands (now (a .cache)) (a .bucket) (c .before .before .next .given .0 .0) (stretch c .stretch .result .opened)
+stands c = sought-stands (stretch c .stretch .ensures) (small (turn c)) (c .before .before .next .given .1)
+
+turning-requires : tie.Need-turning-requires Inv-loop μ-loop
+turning-requires c κs =
+    let e = c .before .before .before in
+    let l = turn e in
+    let way = first (l .before .before) in
+    let far = c .horizon .ensures in (
+      (far .onward, omega (arith, far .few, valid-header (start l .pre .0)), small l),
+      (stepped-inside way (stands e .keeps), stepped-at way (stands e)),
+    )
+
+loop-less : tie.Need-loop-less Inv-loop μ-loop
+loop-less c =
+    let e = c .before .before .before .before in
+    omega (arith, last e, turn e .loop .inv .few, c .turning .ensures .onward)
 
 loop-again : tie.Need-loop-again Inv-loop μ-loop
 loop-again c =
-    let told = c .before .before in
-    let rest = goes-on _ _ _ _ _ _ (led told) (sym (bears told) ∙ c .if2 .left) ∙ more told (omega (arith, one told, valid-header (start (turn told) .pre .0))) in
-    rw (one told) (omega (arith, follow-keeps _ _ _ (led told) .1 .inside), omega (arith, one told, valid-header (start (turn told) .pre .0)), rest)
+    let e = c .before .before .before .before in
+    let l = turn e in
+    searching-on (l .loop .inv) (stretch e .stretch .ensures) (small l) (e .before .before .next .given .1) (e .if1 .left) (first (l .before .before)) (c .before .horizon .ensures) (c .turning .ensures)
 
 pub search-spec : {M : Type 1} → statement M
 search-spec =
@@ -132,15 +133,17 @@ search-spec =
     μ-loop
     (λ c. omega (arith, valid-header (c .before .before .pre .0)))
     (λ c κs. search needs)
-    loop-holds
-    (λ c κs. search needs)
-    (λ c κs. search needs)
-    (λ c. omega (arith, opens-one (c .before .seek .result .next), c .opens .ensures))
+    (λ c κs. omega (arith, valid-header (c .before .before .before .pre .0)))
+    (λ c. searching-first (first (c .before)) (c .further .ensures))
+    stretch-requires
     (λ c. search needs)
     (λ c κs. search needs)
     returns
-    (λ c κs. search needs)
     returns-2
+    go-round-requires
+    (λ c κs. search needs)
     returns-3
-    (λ c. omega (arith, one (c .before .before), valid-header (start (turn (c .before .before)) .pre .0)))
+    (λ c κs. (fewer c, omega (arith, small (turn (c .before .before)))))
+    turning-requires
+    loop-less
     loop-again)

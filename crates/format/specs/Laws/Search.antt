@@ -43,7 +43,7 @@ module _ (s name : List ℕ) (k : ℕ) where
       ∙ search-next s name (link s k n) rs n a (none n (omega arith))
       ∙ rw add-one
 
-  search-unnamed : (n : ℕ) {l : Next} → chainOf s k (mostRecords s) ≡ chained (links s k n) l → NoneBelow s name k n
+  pub search-unnamed : (n : ℕ) {l : Next} → chainOf s k (mostRecords s) ≡ chained (links s k n) l → NoneBelow s name k n
       → searchBucket s name k ≡ unnamed (bucketField s k) l (n + opens l)
   unfolding searchBucket firstNamed
   search-unnamed n e none = rw (searchBucket, e, links-length s k n, ← (append-nil (links s k n))) (search-past n [] _ none)
