@@ -1,16 +1,19 @@
 // The calls of document 01 over one lent buffer that holds an icon theme cache. Each takes any
 // buffer, any name and any number, and says its whole answer by a definition of the crate `format`.
 ghost use mathlib.Core.Path.{_≡_};
-ghost use Prim.Native.Nat.{_+_, _*_, _≤_};
+ghost use Prim.Native.Nat.{_+_, _*_, _≤_, _<_};
 ghost use lib.ListN.{length};
-ghost use Rattle.format.specs.Header.{buckets};
+ghost use Rattle.format.specs.Header.{buckets, bucketField};
 ghost use Rattle.format.specs.Record.{imagesAt, images};
+ghost use Rattle.format.specs.Chain.{chainOf};
+ghost use Rattle.format.specs.Words.{KeepsBelow};
 ghost use Rattle.format.specs.Answer.{partIs};
 ghost use Rattle.format.specs.Answer as answers;
 ghost use Rattle.format.specs.Call.{checkBuckets, foundAnswer, answerWords, lookupWords, directoryPart, directoryPath};
 ghost use Rattle.format.specs.Call as calls;
 ghost use Rattle.format.specs.Demand.{CheckDemand, LookupKept};
 ghost use Rattle.tables.specs.Tables.{TablesOf};
+ghost use Rattle.icon_cache.specs.Buckets.{unnamedOn};
 use bigendian::u32_at;
 use format::CheckAnswer;
 use format::DirectoryAnswer;
@@ -34,7 +37,23 @@ fn refused(number: u32, place: usize, opened: usize) -> CheckAnswer
     }
 }
 
-// The check of all chains, in a cache that keeps the rules 1 to 6, 16 and 17.
+// What is wrong with a chain that goes on after `passed` records, past at most `most` in all: said
+// as by a search that finds nothing, so 30 where it ends.
+fn check_long(cache: &[u8], t: Tables, bucket: u32, passed: usize, most: usize) -> Found
+    requires { ⌜ TablesOf (now cache) t ⌝ }
+    requires { ⌜ (bucket < buckets (now cache)) × (passed ≤ most) × (most < length (now cache)) ⌝ }
+    requires { ⌜ KeepsBelow (now cache) bucket (passed + 1) ⌝ }
+    ensures { λ r. ⌜ r ≡ unnamedOn (bucketField (now (cache .entry)) bucket) (chainOf (now (cache .entry)) bucket most) ⌝ }
+{
+    let judged = chains::go_on(cache, t, bucket, passed, most);
+    let chain = chains::finish(cache, judged, most);
+    let after = chain.after;
+    let field = tables::bucket_field(t, bucket);
+    chains::unnamed(field, after, chain.opened)
+}
+
+// The check of all chains, in a cache that keeps the rules 1 to 6, 16 and 17. It looks ahead on a
+// chain once `stop` records are passed in all; `left` counts down to that.
 fn check_buckets(cache: &[u8], t: Tables) -> CheckAnswer
     requires { ⌜ TablesOf (now cache) t ⌝ }
     ensures { λ r. ⌜ r ≡ checkBuckets (buckets (now (cache .entry))) (now (cache .entry)) 0 0 ⌝ }
@@ -42,22 +61,33 @@ fn check_buckets(cache: &[u8], t: Tables) -> CheckAnswer
     let n = t.buckets;
     let most = cache.len() - 11;
     let mut bucket = 0;
-    let mut opened = 0;
+    let mut stop = chains::further(0, most);
+    let mut left = stop;
     while bucket < n {
-        let chain = chains::walk(cache, t, bucket, most - opened);
-        opened += chain.opened;
+        let chain = chains::walk(cache, t, bucket, left);
         let after = chain.after;
         match after {
             Next::Broken(number, place) => {
-                return refused(number, place, opened);
+                return refused(number, place, stop - left + chain.opened);
             }
             Next::Record(_) => {
-                return refused(12, tables::bucket_field(t, bucket), opened);
+                let before = stop - left;
+                let long = check_long(cache, t, bucket, left, most - before);
+                let opened = before + long.opened;
+                if long.number != 30 {
+                    return refused(long.number, long.place, opened);
+                }
+                stop = chains::further(opened, most);
+                left = stop - opened;
+                bucket += 1;
             }
-            Next::End => {}
+            Next::End => {
+                left -= chain.opened;
+                bucket += 1;
+            }
         }
-        bucket += 1;
     }
+    let opened = stop - left;
     CheckAnswer {
         number: 0,
         place: 0,
