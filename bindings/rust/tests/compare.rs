@@ -10,9 +10,10 @@ mod generator;
 mod reader;
 mod side_by_side;
 
-use counts::{Counts, Met, OnPurpose};
+use counts::{Counts, Met, OnPurpose, AHEAD};
 use generator::wanted::Wanted;
-use generator::{damage, name_in_bucket, name_of_hash, positions, series, Random, Sound, WRAPPING};
+use generator::{damage, name_in_bucket, name_of_hash, positions, rounds, series};
+use generator::{Random, Sound, WRAPPING};
 use reader::{Position, Step};
 use side_by_side::{Difference, Pair};
 use std::collections::HashSet;
@@ -28,7 +29,7 @@ const SEED: u64 = 20_260_101;
 const BUFFERS: u64 = 1_000_000;
 
 /// One sound cache in so many is damaged on purpose. That makes more buffers
-/// than all other rounds; with more such caches fewer others would be met.
+/// than all others do; with more such caches fewer others would be met.
 const ON_PURPOSE: u64 = 20;
 
 /// The work is cut into lanes and not by the number of processors, so that a
@@ -90,7 +91,7 @@ fn run(seed: u64, buffers: u64) -> Result<Counts, String> {
             // The buffers on purpose come first, as a lane of their own.
             match lane {
                 0 => comparison.run_series(),
-                _ => comparison.run_rounds(buffers.div_ceil(LANES)),
+                _ => comparison.run_at_random(buffers.div_ceil(LANES)),
             }
             counts.add(&comparison.counts);
             if let Some(report) = comparison.report {
@@ -118,6 +119,8 @@ struct Comparison<'a> {
     random: Random,
     /// Names that are asked for in each buffer, there or not.
     names: Vec<Vec<u8>>,
+    /// Positions to step from, if a case brings its own.
+    positions: Vec<Position>,
     counts: Counts,
     /// The first difference.
     report: Option<String>,
@@ -131,6 +134,7 @@ impl<'a> Comparison<'a> {
             stop,
             random: Random::new(seed, lane),
             names: Vec::new(),
+            positions: Vec::new(),
             counts: Counts::default(),
             report: None,
         }
@@ -148,25 +152,27 @@ impl<'a> Comparison<'a> {
         series::many_directories(|case| self.compare_case(case));
         series::many_buckets(|case| self.compare_case(case));
         series::largest(|case| self.compare_case(case));
+        rounds::all(|case| self.compare_case(case));
     }
 
     fn compare_case(&mut self, case: &series::Case) {
         self.names.clone_from(&case.names);
+        self.positions.clone_from(&case.positions);
         self.compare(&case.what, &case.bytes);
     }
 
-    fn run_rounds(&mut self, buffers: u64) {
-        let mut round = self.lane;
+    fn run_at_random(&mut self, buffers: u64) {
+        let mut stream = self.lane;
         while self.counts.different() < buffers && !self.stopped() {
-            self.random = Random::new(self.seed, round);
-            self.run_round((round / LANES) % ON_PURPOSE == ON_PURPOSE / 2);
-            round += LANES;
+            self.random = Random::new(self.seed, stream);
+            self.run_sound((stream / LANES) % ON_PURPOSE == ON_PURPOSE / 2);
+            stream += LANES;
         }
     }
 
     /// One sound cache, some damages at random, and now and then those on
     /// purpose.
-    fn run_round(&mut self, on_purpose: bool) {
+    fn run_sound(&mut self, on_purpose: bool) {
         let sound = Sound::make(&mut self.random);
         demand_sound(&sound);
         self.counts.sound += 1;
@@ -229,40 +235,58 @@ impl<'a> Comparison<'a> {
 
     fn ask_all(&mut self, lent: &[u8]) -> Result<(), Difference> {
         let pair = Pair::new(lent);
-        let check = pair.check()?;
-        self.counts.check.note(check.number);
-        let name_cut_off = check.number == 17 && check.opened > 0;
-        self.counts.meetings.note(Met::NameCutOff, name_cut_off);
+        let cache = Asked {
+            lent,
+            check: pair.check()?,
+            chains: reader::chain_lengths(lent),
+            pair,
+        };
+        self.counts.check.note(cache.check.number);
+        self.note_check(&cache);
         for (i, name) in self.queries(lent).iter().enumerate() {
-            self.ask_lookup(&pair, name, i == 0)?;
-            // The first name is mostly there.
-            if i == 0 || self.random.one_in(PICKS) {
-                self.ask_pick(&pair, lent, name)?;
+            self.ask_lookup(&cache, name, i == 0)?;
+            // The first name is mostly there. A case with its own positions has few names.
+            let of_case = !self.positions.is_empty() && self.names.contains(name);
+            if i == 0 || of_case || self.random.one_in(PICKS) {
+                self.ask_pick(&cache, name)?;
             }
         }
         for index in self.indexes(lent) {
-            let answer = pair.directory(index)?;
+            let answer = cache.pair.directory(index)?;
             self.counts.directory.note(answer.number);
-            let answer = pair.directory_path(index)?;
+            let answer = cache.pair.directory_path(index)?;
             self.counts.path.note(answer.number);
         }
-        let chains = reader::chain_lengths(lent);
-        self.ask_steps(&Listed {
-            pair,
-            check,
-            chains,
-            length: lent.len(),
-        })
+        self.ask_steps(&cache)
     }
 
-    /// Walks from the start on, then steps twice from each of some positions.
-    fn ask_steps(&mut self, cache: &Listed) -> Result<(), Difference> {
-        let Listed { chains, length, .. } = cache;
-        let positions = if *length > LARGE {
-            positions::few(&mut self.random, *length, chains)
+    fn note_check(&mut self, cache: &Asked) {
+        let reader::Check { number, opened, .. } = cache.check;
+        let meetings = &mut self.counts.meetings;
+        meetings.note(Met::NameCutOff, number == 17 && opened > 0);
+        if number == 12 {
+            let (before, records) = cache.before_round();
+            let left = opened - before.iter().sum::<usize>();
+            let behind_long = before.iter().any(|&records| records > AHEAD);
+            meetings.note(Met::LongRound, records > AHEAD);
+            meetings.note(Met::RoundBehindLong, behind_long);
+            meetings.note(Met::NoneLeftAhead, left == AHEAD);
+            meetings.note(Met::OneLeftAhead, left == AHEAD + 1);
+        } else if matches!(number, 8..=11 | 17) && opened > AHEAD {
+            meetings.note(Met::FaultOnLongRound, cache.fault_on_long_round());
+        }
+    }
+
+    /// Steps twice from each of some positions, mostly after a walk from the start on.
+    fn ask_steps(&mut self, cache: &Asked) -> Result<(), Difference> {
+        let (length, chains) = (cache.lent.len(), &cache.chains);
+        let positions = if !self.positions.is_empty() {
+            self.positions.clone()
+        } else if length > LARGE {
+            positions::few(&mut self.random, length, chains)
         } else {
             self.walk(cache)?;
-            positions::many(&mut self.random, *length, chains)
+            positions::many(&mut self.random, length, chains)
         };
         for position in positions {
             let step = self.step(cache, position)?;
@@ -276,7 +300,7 @@ impl<'a> Comparison<'a> {
     }
 
     /// Steps from the start on.
-    fn walk(&mut self, cache: &Listed) -> Result<(), Difference> {
+    fn walk(&mut self, cache: &Asked) -> Result<(), Difference> {
         let reader::Check { number, icons, .. } = cache.check;
         let most = match number {
             0 => WALK,
@@ -302,7 +326,7 @@ impl<'a> Comparison<'a> {
     }
 
     /// From behind a record at fault a step meets it as well.
-    fn step_behind_fault(&mut self, cache: &Listed, fault: &Step) -> Result<(), Difference> {
+    fn step_behind_fault(&mut self, cache: &Asked, fault: &Step) -> Result<(), Difference> {
         let mut behind = fault.position;
         behind.count += 1;
         let step = self.step(cache, behind)?;
@@ -314,16 +338,20 @@ impl<'a> Comparison<'a> {
         Ok(())
     }
 
-    fn step(&mut self, cache: &Listed, from: Position) -> Result<Step, Difference> {
+    fn step(&mut self, cache: &Asked, from: Position) -> Result<Step, Difference> {
         let step = cache.pair.list(from)?;
         self.counts.list.note(step.number);
         let meetings = &mut self.counts.meetings;
         if step.number == 0 {
             let bucket = step.position.bucket;
             meetings.note(Met::EmptyBuckets, bucket > from.bucket + 1);
-            let behind = from.count >= cache.chains[from.bucket];
-            meetings.note(Met::RecordAgain, behind && bucket == from.bucket);
+            let records = cache.chains[from.bucket];
+            let again = bucket == from.bucket && from.count >= records;
+            meetings.note(Met::RecordAgain, again);
+            meetings.note(Met::LongRoundAgain, again && records > AHEAD);
         }
+        let at_fault = matches!(step.number, 7..=11 | 17);
+        meetings.note(Met::FaultBehindRound, at_fault && cache.check.number == 12);
         if step.number == 28 {
             // With a path at fault the check has opened nothing.
             let reader::Check { number, opened, .. } = cache.check;
@@ -337,25 +365,31 @@ impl<'a> Comparison<'a> {
     }
 
     /// Asks with no room, too little, just enough and more.
-    fn ask_lookup(&mut self, pair: &Pair, name: &[u8], thorough: bool) -> Result<(), Difference> {
-        let (answer, _) = pair.lookup(name, 0)?;
+    fn ask_lookup(&mut self, cache: &Asked, name: &[u8], thorough: bool) -> Result<(), Difference> {
+        let (answer, _) = cache.pair.lookup(name, 0)?;
         self.counts.lookup.note(answer.number);
+        if matches!(answer.number, 0 | 14) && answer.opened > AHEAD {
+            let on_last = cache.ends_round(name, answer.opened);
+            self.counts.meetings.note(Met::FoundOnLongRound, on_last);
+        }
         let need = 2 * answer.images;
         let rooms = [need.saturating_sub(1), need, need + 3];
         let chosen = self.random.below(rooms.len());
         for (i, &room) in rooms.iter().enumerate() {
             if thorough || i == chosen {
-                let (answer, _) = pair.lookup(name, room)?;
+                let (answer, _) = cache.pair.lookup(name, room)?;
                 self.counts.lookup.note(answer.number);
             }
         }
         Ok(())
     }
 
-    fn ask_pick(&mut self, pair: &Pair, lent: &[u8], name: &[u8]) -> Result<(), Difference> {
-        let directories = reader::sizes(lent).map_or(1, |(directories, _)| directories);
+    fn ask_pick(&mut self, cache: &Asked, name: &[u8]) -> Result<(), Difference> {
+        let directories = reader::sizes(cache.lent).map_or(1, |(directories, _)| directories);
         let wanted = Wanted::make(&mut self.random, directories);
-        let answer = pair.pick(name, wanted.size, wanted.scale, &wanted.directories)?;
+        let answer = cache
+            .pair
+            .pick(name, wanted.size, wanted.scale, &wanted.directories)?;
         self.counts.pick.note(answer.number);
         let meetings = &mut self.counts.meetings;
         let bad_type = wanted.directories.chunks(6).any(|words| words[0] > 2);
@@ -370,7 +404,7 @@ impl<'a> Comparison<'a> {
         }
         meetings.note(Met::PickedFirst, answer.passed == 0);
         meetings.note(Met::PickedLater, answer.passed > 0);
-        let (directory, ..) = reader::image(lent, answer.place);
+        let (directory, ..) = reader::image(cache.lent, answer.place);
         let words = &wanted.directories[6 * usize::from(directory)..][..6];
         let by_type = [Met::PickedFixed, Met::PickedScalable, Met::PickedThreshold];
         meetings.note(by_type[words[0] as usize], true);
@@ -423,13 +457,42 @@ impl<'a> Comparison<'a> {
     }
 }
 
-/// A cache to step through, and what the reader tells of it.
-struct Listed<'a> {
+/// A cache, and what the reader tells of it.
+struct Asked<'a> {
+    lent: &'a [u8],
     pair: Pair<'a>,
     check: reader::Check,
     /// How many records each chain has.
     chains: Vec<usize>,
-    length: usize,
+}
+
+impl Asked<'_> {
+    /// Of a cache refused with 12: the lengths of the chains before the one that
+    /// never ends, and its own.
+    fn before_round(&self) -> (&[usize], usize) {
+        let mut buckets = 0..self.chains.len();
+        let bucket = buckets.find(|&bucket| reader::round_start(self.lent, bucket).is_some());
+        let bucket = bucket.expect("12 is said of a chain that never ends");
+        (&self.chains[..bucket], self.chains[bucket])
+    }
+
+    /// Of a cache with a record at fault: it is on the round of its chain, behind
+    /// [`AHEAD`] records or more.
+    fn fault_on_long_round(&self) -> bool {
+        let (mut bucket, mut opened) = (0, self.check.opened);
+        while opened > self.chains[bucket] {
+            opened -= self.chains[bucket];
+            bucket += 1;
+        }
+        let start = reader::round_start(self.lent, bucket);
+        start.is_some_and(|start| opened > start.max(AHEAD))
+    }
+
+    /// The name's chain has so many records and never ends.
+    fn ends_round(&self, name: &[u8], opened: usize) -> bool {
+        let bucket = reader::hash(name) as usize % self.chains.len();
+        opened == self.chains[bucket] && reader::round_start(self.lent, bucket).is_some()
+    }
 }
 
 /// Takes all damages of a cache with few records, and every so many of one with

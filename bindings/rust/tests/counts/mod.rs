@@ -34,6 +34,9 @@ impl OnPurpose {
     }
 }
 
+/// Where a chain has more records, the library looks ahead along it.
+pub const AHEAD: usize = 255;
+
 /// What the calls meet and their answer numbers do not tell.
 #[derive(Clone, Copy, Debug)]
 pub enum Met {
@@ -60,6 +63,22 @@ pub enum Met {
     NameCutOff,
     /// The end, in a cache with a lower bucket at fault.
     FaultBefore,
+    /// An endless chain of more than [`AHEAD`] records, in the check.
+    LongRound,
+    /// An endless chain behind one of more than [`AHEAD`] records, in the check.
+    RoundBehindLong,
+    /// A record of a long endless chain, handed back once more.
+    LongRoundAgain,
+    /// A fault on the round of a long endless chain, in the check.
+    FaultOnLongRound,
+    /// The last record of a long endless chain, found by its name.
+    FoundOnLongRound,
+    /// An endless chain of which just [`AHEAD`] records may be opened, and one of
+    /// which one more may.
+    NoneLeftAhead,
+    OneLeftAhead,
+    /// A fault in a bucket behind an endless chain.
+    FaultBehindRound,
     /// The first image of a list, picked.
     PickedFirst,
     /// An image picked, with others before it that don't fit.
@@ -79,7 +98,7 @@ pub enum Met {
 }
 
 impl Met {
-    const ALL: [Met; 20] = [
+    const ALL: [Met; 28] = [
         Met::WholeWalk,
         Met::EmptyBuckets,
         Met::RecordAgain,
@@ -91,6 +110,14 @@ impl Met {
         Met::PathCutOff,
         Met::NameCutOff,
         Met::FaultBefore,
+        Met::LongRound,
+        Met::RoundBehindLong,
+        Met::LongRoundAgain,
+        Met::FaultOnLongRound,
+        Met::FoundOnLongRound,
+        Met::NoneLeftAhead,
+        Met::OneLeftAhead,
+        Met::FaultBehindRound,
         Met::PickedFirst,
         Met::PickedLater,
         Met::PickedFixed,

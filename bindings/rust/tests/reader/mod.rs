@@ -519,3 +519,14 @@ pub fn chain_lengths(cache: &[u8]) -> Vec<usize> {
         .map(|bucket| chain(cache, tables.bucket_field(bucket)).records.len())
         .collect()
 }
+
+/// The number of the record that the chain of a bucket comes back to, from 0 on,
+/// unless it ends. Not every test asks.
+#[allow(dead_code)]
+pub fn round_start(cache: &[u8], bucket: usize) -> Option<usize> {
+    let tables = tables(cache).ok()?;
+    match chain(cache, tables.bucket_field(bucket)).end {
+        ChainEnd::Repeats { from } => Some(from),
+        _ => None,
+    }
+}
