@@ -70,9 +70,11 @@ extern "C" {
 /*
  * Checks the whole cache. With any number but 0, *directories and *icons are 0.
  * *opened is the number of icon records that were looked at: with 17 it is 0 if
- * a path runs off the end, and more if a name does. With an endless chain in a
- * cache of 16 MiB this takes tens of seconds, with one in 256 KiB less than a
- * second: do it in a thread of its own, or set a smaller limit of length.
+ * a path runs off the end, and more if a name does. A cache of 16 MiB that was
+ * made to cost time can take some seconds, one of 256 KiB some hundredths of a
+ * second: do it in a thread of its own, or set a smaller limit of length. A
+ * chain that never ends costs about as much as a long one that does, or twice
+ * that: each of its records is judged once.
  */
 uint32_t icon_cache_check(const uint8_t *cache, size_t cache_len,
                           size_t *place, size_t *directories, size_t *icons, size_t *opened);
@@ -89,9 +91,8 @@ uint32_t icon_cache_check(const uint8_t *cache, size_t cache_len,
  * Names are compared byte for byte: two ways to write an accented letter in
  * Unicode are two names.
  *
- * An endless chain costs even more time than in the check, tens of seconds at
- * 16 MiB and less than a second at 256 KiB: do it in a thread of its own, or
- * set a smaller limit of length.
+ * A cache that was made to cost time costs about as much as in the check, some
+ * seconds at 16 MiB.
  */
 uint32_t icon_cache_lookup(const uint8_t *cache, size_t cache_len,
                            const uint8_t *name, size_t name_len,
@@ -133,10 +134,10 @@ uint32_t icon_cache_directory_path(const uint8_t *cache, size_t cache_len, size_
  *
  * A step passes its chain anew: it opens at most *count + 1 records, those of a
  * later chain counted in. So to list a chain costs the square of its length,
- * and one step on an endless chain can take tens of seconds at 16 MiB. Where
- * nothing has checked the cache, take a page at a time. A chain never ends, and
- * all its records keep the rules, exactly if the step from its bucket and
- * cache_len - 11 answers 0 and leaves *bucket as it was.
+ * and one step on a long chain can take some seconds at 16 MiB. Where nothing
+ * has checked the cache, take a page at a time. A chain never ends, and all its
+ * records keep the rules, exactly if the step from its bucket and cache_len - 11
+ * answers 0 and leaves *bucket as it was.
  */
 uint32_t icon_cache_list(const uint8_t *cache, size_t cache_len,
                          size_t *bucket, size_t *count, size_t *place, size_t *record);
@@ -186,8 +187,8 @@ uint32_t icon_cache_flags_out(uint16_t flags, uint32_t numbering, uint16_t *raw)
  * above its MaxSize a Scalable directory fits nothing. Nothing is written but
  * *place.
  *
- * Paths are not judged: icon_cache_directory_path judges that of the image. An
- * endless chain costs as much time as in the lookup.
+ * Paths are not judged: icon_cache_directory_path judges that of the image. A
+ * pick costs little more time than the lookup.
  */
 uint32_t icon_cache_pick(const uint8_t *cache, size_t cache_len,
                          const uint8_t *name, size_t name_len,

@@ -102,9 +102,10 @@ pub struct Found {
 
 /// Checks the whole cache.
 ///
-/// With an endless chain in a cache of 16 MiB this takes tens of seconds, with
-/// one in 256 KiB less than a second: do it in a thread of its own, or
-/// set a smaller limit of length.
+/// A cache of 16 MiB that was made to cost time can take some seconds, one of
+/// 256 KiB some hundredths of a second: do it in a thread of its own, or set a
+/// smaller limit of length. A chain that never ends costs about as much as a
+/// long one that does, or twice that: each of its records is judged once.
 ///
 /// ```
 /// use icon_cache::{check, Refusal, FARM_CACHE};
@@ -140,9 +141,8 @@ pub fn check(cache: &[u8]) -> Result<Checked, Refusal> {
 /// may be found in a cache that [`check`] refuses. Names are compared byte for
 /// byte: two ways to write an accented letter in Unicode are two names.
 ///
-/// An endless chain costs it even more time than it costs [`check`], tens of
-/// seconds at 16 MiB and less than a second at 256 KiB: do it in a thread of
-/// its own, or set a smaller limit of length.
+/// A cache that was made to cost time costs about as much as it costs [`check`],
+/// some seconds at 16 MiB.
 ///
 /// ```
 /// use icon_cache::{lookup, Refusal, FARM_CACHE};

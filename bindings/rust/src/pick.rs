@@ -31,7 +31,7 @@ pub struct Picked {
 /// is refused alike, at the same places. After it comes
 /// [`WRONG_WORD_COUNT`](Refusal::WRONG_WORD_COUNT), and then
 /// [`BAD_TYPE`](Refusal::BAD_TYPE), also of a directory that no image names. Paths
-/// are not judged, and an endless chain costs as much as it costs a lookup.
+/// are not judged. A pick costs little more time than a lookup.
 ///
 /// ```
 /// use icon_cache::{pick, Refusal, FARM_CACHE};

@@ -40,6 +40,7 @@ and hex), and what that means.
 
 A directory as FILE stands for the icon-theme.cache in it, and - for standard
 input. A file above 16,777,216 bytes is refused by rule 2 and not read further.
+A smaller one that was made to cost time can take some seconds.
 
 Exit status: 0 all accepted, 1 one refused, 2 one that can't be read.";
 
