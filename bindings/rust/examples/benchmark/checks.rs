@@ -1,27 +1,25 @@
 //! The check of a whole cache.
 
 use crate::caches::Cache;
-use crate::measure::{in_turn, repeat, Rounds, Seconds, LIBRARY, MEMCPY, READER, READERS};
+use crate::measure::{in_turn, repeat, Runs, Seconds, LIBRARY, MEMCPY, READER, READERS};
 use crate::reader;
 use icon_cache::raw;
 use std::hint::black_box;
 
-/// The bytes that are checked in one round, at least.
+/// The bytes that are checked in one run, at least.
 const BYTES: usize = 20_000_000;
 
-pub fn check(cache: &Cache) -> Rounds<'_> {
+pub fn check(cache: &Cache) -> Runs<'_> {
     let icons = reader::names(&cache.bytes).len();
-    Rounds::new(cache, "check", move |round| {
-        measure(&cache.bytes, icons, round)
-    })
+    Runs::new(cache, "check", move |run| measure(&cache.bytes, icons, run))
 }
 
 /// The readers must find all icons.
-fn measure(bytes: &[u8], icons: usize, round: usize) -> Seconds {
+fn measure(bytes: &[u8], icons: usize, run: usize) -> Seconds {
     let mut copy = vec![1; bytes.len()];
     let calls = BYTES.div_ceil(bytes.len());
     let mut seconds = [None; READERS];
-    for reader in in_turn(&[LIBRARY, READER, MEMCPY], round) {
+    for reader in in_turn(&[LIBRARY, READER, MEMCPY], run) {
         let (taken, found) = match reader {
             LIBRARY => repeat(calls, bytes, |bytes| raw::check(bytes).icons),
             READER => repeat(calls, bytes, |bytes| reader::check(bytes).icons),

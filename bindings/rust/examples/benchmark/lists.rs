@@ -1,26 +1,24 @@
 //! The listing of a whole cache: a step for each record and one that says done.
 
 use crate::caches::Cache;
-use crate::measure::{in_turn, repeat, Rounds, Row, Seconds, LIBRARY, READER, READERS};
+use crate::measure::{in_turn, repeat, Row, Runs, Seconds, LIBRARY, READER, READERS};
 use crate::reader;
 use icon_cache::raw;
 use std::hint::black_box;
 
-/// The records that are handed back in one round, at least.
+/// The records that are handed back in one run, at least.
 const RECORDS: usize = 30_000;
 
-pub fn list(cache: &Cache) -> Rounds<'_> {
+pub fn list(cache: &Cache) -> Runs<'_> {
     let icons = raw::check(&cache.bytes).icons;
-    Rounds::new(cache, "list", move |round| {
-        measure(&cache.bytes, icons, round)
-    })
+    Runs::new(cache, "list", move |run| measure(&cache.bytes, icons, run))
 }
 
 /// The readers must hand back as many records as the check counts.
-fn measure(bytes: &[u8], icons: usize, round: usize) -> Seconds {
+fn measure(bytes: &[u8], icons: usize, run: usize) -> Seconds {
     let calls = RECORDS.div_ceil(icons);
     let mut seconds = [None; READERS];
-    for reader in in_turn(&[LIBRARY, READER], round) {
+    for reader in in_turn(&[LIBRARY, READER], run) {
         let (taken, records) = match reader {
             LIBRARY => repeat(calls, bytes, by_library),
             _ => repeat(calls, bytes, by_reader),

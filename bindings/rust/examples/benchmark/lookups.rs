@@ -2,19 +2,19 @@
 
 use crate::caches::Cache;
 use crate::generator::Random;
-use crate::measure::{in_turn, time, Rounds, Seconds, LIBRARY, READER, READERS, UNCHECKED};
+use crate::measure::{in_turn, time, Runs, Seconds, LIBRARY, READER, READERS, UNCHECKED};
 use crate::{reader, unchecked};
 use icon_cache::raw;
 use std::ffi::{CStr, CString};
 use std::hint::black_box;
 
-/// The names of one round: each of a large cache once at most, and those of a
+/// The names of one run: each of a large cache once at most, and those of a
 /// small cache many times.
 const NAMES: usize = 90_000;
 /// Room for the images of any icon.
 pub const WORDS: usize = 2 * 1_024;
 
-pub fn hits(cache: &Cache) -> Rounds<'_> {
+pub fn hits(cache: &Cache) -> Runs<'_> {
     let there = reader::names(&cache.bytes);
     lookups(
         cache,
@@ -24,7 +24,7 @@ pub fn hits(cache: &Cache) -> Rounds<'_> {
 }
 
 /// Names of the same lengths that are not there.
-pub fn misses(cache: &Cache) -> Rounds<'_> {
+pub fn misses(cache: &Cache) -> Runs<'_> {
     let there = reader::names(&cache.bytes);
     let absent: Vec<Vec<u8>> = there.into_iter().map(other_name).collect();
     for name in &absent {
@@ -40,19 +40,19 @@ fn other_name(name: &[u8]) -> Vec<u8> {
     name
 }
 
-fn lookups<'a>(cache: &'a Cache, call: &'static str, names: Vec<Vec<u8>>) -> Rounds<'a> {
+fn lookups<'a>(cache: &'a Cache, call: &'static str, names: Vec<Vec<u8>>) -> Runs<'a> {
     // The reader without checks relies on it.
     assert_eq!(raw::check(&cache.bytes).number, 0);
-    Rounds::new(cache, call, move |round| {
-        measure(&cache.bytes, &Tape::new(&names, round as u64), round)
+    Runs::new(cache, call, move |run| {
+        measure(&cache.bytes, &Tape::new(&names, run as u64), run)
     })
 }
 
 /// The readers must answer the same.
-fn measure(cache: &[u8], tape: &Tape, round: usize) -> Seconds {
+fn measure(cache: &[u8], tape: &Tape, run: usize) -> Seconds {
     let mut seconds = [None; READERS];
     let mut answers = Vec::new();
-    for reader in in_turn(&[LIBRARY, UNCHECKED, READER], round) {
+    for reader in in_turn(&[LIBRARY, UNCHECKED, READER], run) {
         let lookup = match reader {
             LIBRARY => by_library,
             UNCHECKED => by_unchecked,
@@ -85,7 +85,7 @@ fn by_reader(cache: &[u8], name: &CStr, words: &mut [u32]) -> Option<(usize, usi
     (answer.number == 0).then_some((answer.place, answer.images))
 }
 
-/// The names of one round in a new random order, one behind the other.
+/// The names of one run in a new random order, one behind the other.
 struct Tape {
     names: Vec<u8>,
     /// Where the names end, each behind its zero byte.
@@ -93,8 +93,8 @@ struct Tape {
 }
 
 impl Tape {
-    fn new(names: &[Vec<u8>], round: u64) -> Tape {
-        let mut random = Random::new(2, round);
+    fn new(names: &[Vec<u8>], run: u64) -> Tape {
+        let mut random = Random::new(2, run);
         let mut order: Vec<usize> = (0..names.len()).collect();
         while order.len() < NAMES {
             order.extend(0..names.len());

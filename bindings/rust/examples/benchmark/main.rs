@@ -21,39 +21,37 @@ mod table;
 mod unchecked;
 
 use caches::Cache;
-use measure::{Rounds, Row};
-use std::time::{Duration, Instant};
+use measure::{Row, Runs};
+use std::time::Instant;
 
-/// The benchmark ends soon after, on a slow machine too.
-const AT_MOST: Duration = Duration::from_secs(114);
-const ROUNDS: usize = 25;
+const RUNS: usize = 25;
 
 fn main() {
     let start = Instant::now();
     let caches = caches::all();
     table::print_head();
     let rows = measure_side_by_side(&caches);
-    hostile::measure_all(start + AT_MOST, table::print);
+    hostile::measure_all(table::print);
     lists::print_costs(&caches, &rows);
     println!("\nin {:.0} seconds", start.elapsed().as_secs_f64());
 }
 
-/// The rounds of all rows take turns, so that a slow time of the machine doesn't
-/// meet all rounds of one row.
+/// The runs of all rows take turns, so that a slow time of the machine doesn't
+/// meet all runs of one row.
 fn measure_side_by_side(caches: &[Cache]) -> Vec<Row> {
-    let mut rows: Vec<Rounds> = Vec::new();
+    let mut rows: Vec<Runs> = Vec::new();
     for cache in caches {
         rows.push(lookups::hits(cache));
         rows.push(lookups::misses(cache));
         rows.push(checks::check(cache));
         rows.push(lists::list(cache));
     }
-    for round in 0..ROUNDS {
+    for run in 0..RUNS {
         for row in &mut rows {
-            row.measure(round);
+            row.measure(run);
         }
     }
-    let rows: Vec<Row> = rows.iter().map(Rounds::row).collect();
+    let rows: Vec<Row> = rows.iter().map(Runs::row).collect();
     for row in &rows {
         table::print(row);
     }

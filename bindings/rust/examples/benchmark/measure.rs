@@ -25,32 +25,32 @@ pub struct Row {
     pub ratios: [Option<f64>; READERS],
 }
 
-/// What gives a row: rounds in which the readers are measured one after another.
+/// What gives a row: runs in which the readers are measured one after another.
 /// The best time of each reader counts, since other programs can only make a
-/// round slower.
-pub struct Rounds<'a> {
+/// run slower.
+pub struct Runs<'a> {
     cache: &'a Cache,
     call: &'static str,
-    round: Box<dyn Fn(usize) -> Seconds + 'a>,
+    run: Box<dyn Fn(usize) -> Seconds + 'a>,
     best: Seconds,
 }
 
-impl<'a> Rounds<'a> {
+impl<'a> Runs<'a> {
     pub fn new(
         cache: &'a Cache,
         call: &'static str,
-        round: impl Fn(usize) -> Seconds + 'a,
-    ) -> Rounds<'a> {
-        Rounds {
+        run: impl Fn(usize) -> Seconds + 'a,
+    ) -> Runs<'a> {
+        Runs {
             cache,
             call,
-            round: Box::new(round),
+            run: Box::new(run),
             best: [None; READERS],
         }
     }
 
-    pub fn measure(&mut self, round: usize) {
-        let seconds = (self.round)(round);
+    pub fn measure(&mut self, run: usize) {
+        let seconds = (self.run)(run);
         for (best, now) in self.best.iter_mut().zip(seconds) {
             *best = [*best, now].into_iter().flatten().min_by(f64::total_cmp);
         }
@@ -68,10 +68,10 @@ impl<'a> Rounds<'a> {
     }
 }
 
-/// The readers, in each round with another one first: for that one the bytes are
+/// The readers, in each run with another one first: for that one the bytes are
 /// further away.
-pub fn in_turn(readers: &[usize], round: usize) -> impl Iterator<Item = usize> + '_ {
-    let from_another = readers.iter().cycle().skip(round % readers.len());
+pub fn in_turn(readers: &[usize], run: usize) -> impl Iterator<Item = usize> + '_ {
+    let from_another = readers.iter().cycle().skip(run % readers.len());
     from_another.take(readers.len()).copied()
 }
 

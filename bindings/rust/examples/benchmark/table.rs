@@ -8,7 +8,7 @@ pub fn print_head() {
     let processors = thread::available_parallelism().map_or(1, usize::from);
     println!("Processors: {processors}, {}", processor_model());
     println!(
-        "Times are the best of some rounds; the rows of long and endless chains are measured once."
+        "Times are the best of some runs; the rows of long and endless chains are measured once."
     );
     println!("A ratio says how many times as long the library takes.\n");
     println!(
