@@ -9,6 +9,7 @@ use lib.ListN.{length}
 use lib.Dec.{T}
 use Rattle.format.specs.Layout.{majorField}
 use Rattle.format.specs.Number.{be}
+use Rattle.format.specs.Bytes.{put}
 use Rattle.format.specs.Fault.{_orElse_, firstFault}
 use Rattle.format.specs.String.{string, extent, isWhole, stringFault, sameBytes, signed, hashFrom, hashNumbers, hash, allowed}
 use Rattle.format.specs.Segments.{segments, firstSegment, laterSegments, validSegment, allValid}
@@ -17,8 +18,8 @@ use Rattle.format.specs.Record.{nameFault, listFault, recordFault, image
 use Rattle.format.specs.Chain.{linkFault, follow, chain}
 use Rattle.format.specs.Answer.{refused}
 use Rattle.format.specs.Call.{check, checkBuckets, firstNamed, searchBucket, queryFault, find, withImages, lookup, foundAnswer, answerWords, directoryFault, directory, directoryPath}
-use Rattle.format.specs.Farm.{farm, looped, patched, sameCheck, sameLookup, sameDirectory, holds, all, cow, oat, pig, lent}
-use Rattle.format.specs.Examples.Caches.{small, none, put, header, start, bare, hashLast, twoInHeader, named, pathed, undirected, recordLast}
+use Rattle.format.specs.Farm.{farm, looped, sameCheck, sameLookup, sameDirectory, holds, all, cow, oat, pig, lent}
+use Rattle.format.specs.Examples.Caches.{small, none, withField, header, start, bare, hashLast, twoInHeader, named, pathed, undirected, recordLast}
 use Rattle.format.specs.Examples.Tables.{tableExamples, headerExamples}
 use Rattle.format.specs.Examples.Records.{recordExamples, loopExamples, pathExamples}
 pub mod Caches
@@ -26,7 +27,7 @@ pub mod Tables
 pub mod Records
 
 examples-hold : T (all tableExamples && all headerExamples && all recordExamples && all loopExamples && all pathExamples)
-unfolding all holds tableExamples headerExamples recordExamples loopExamples pathExamples small none put header start bare hashLast twoInHeader named pathed undirected recordLast lent looped patched farm cow oat pig sameCheck sameLookup sameDirectory check checkBuckets firstNamed searchBucket queryFault find withImages lookup foundAnswer answerWords directoryFault directory directoryPath linkFault follow chain recordFault nameFault listFault imageWords headerFault segments firstSegment laterSegments validSegment allValid pathFault tablesFault _orElse_ firstFault extent string isWhole stringFault sameBytes signed hashFrom hashNumbers hash allowed be
+unfolding all holds tableExamples headerExamples recordExamples loopExamples pathExamples small none withField header start bare hashLast twoInHeader named pathed undirected recordLast lent looped put farm cow oat pig sameCheck sameLookup sameDirectory check checkBuckets firstNamed searchBucket queryFault find withImages lookup foundAnswer answerWords directoryFault directory directoryPath linkFault follow chain recordFault nameFault listFault imageWords headerFault segments firstSegment laterSegments validSegment allValid pathFault tablesFault _orElse_ firstFault extent string isWhole stringFault sameBytes signed hashFrom hashNumbers hash allowed be
 examples-hold = tt
 
 -- every buffer of 16,777,217 bytes is refused with 2, and of 16,777,216 with 3 where MAJOR is 2

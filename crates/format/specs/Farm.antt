@@ -1,10 +1,11 @@
 -- The farm cache of document 01, and its examples P1 to P12 as one list.
-use Prim.Native.Nat.{ℕ, _+_}
-use mathlib.Core.List.{List, [], _∷_, _++_}
+use Prim.Native.Nat.{ℕ}
+use mathlib.Core.List.{List, [], _∷_}
 use mathlib.Core.Bool.{Bool, true, _&&_}
-use lib.ListN.{length, take, drop, replicate}
+use lib.ListN.{length, take, replicate}
 use lib.Dec.{T, eqb}
 use Rattle.format.specs.Number.{be}
+use Rattle.format.specs.Bytes.{put}
 use Rattle.format.specs.Fault.{_orElse_, firstFault}
 use Rattle.format.specs.String.{string, extent, isWhole, stringFault, sameBytes, signed, hashFrom, hashNumbers, hash, allowed}
 use Rattle.format.specs.Segments.{segments, firstSegment, laterSegments, validSegment, allValid}
@@ -31,8 +32,8 @@ farm =
     []
 
 -- the bytes vs from p on
-unfoldable pub patched : ℕ → List ℕ → List ℕ → List ℕ
-patched p vs s = take p s ++ vs ++ drop (p + length vs) s
+abbrev pub patched : ℕ → List ℕ → List ℕ → List ℕ
+patched p vs s = put s p vs
 
 -- a call and what it has to answer
 pub data Example : Type 0 where
@@ -104,5 +105,5 @@ examples =
     []
 
 examples-hold : T (all examples)
-unfolding all holds examples lent looped patched farm cow oat pig ewe sameCheck sameLookup sameDirectory check checkBuckets firstNamed searchBucket queryFault find withImages lookup foundAnswer answerWords directoryFault directory directoryPath linkFault follow chain recordFault nameFault listFault imageWords headerFault segments firstSegment laterSegments validSegment allValid pathFault tablesFault _orElse_ firstFault extent string isWhole stringFault sameBytes signed hashFrom hashNumbers hash allowed be
+unfolding all holds examples lent looped put farm cow oat pig ewe sameCheck sameLookup sameDirectory check checkBuckets firstNamed searchBucket queryFault find withImages lookup foundAnswer answerWords directoryFault directory directoryPath linkFault follow chain recordFault nameFault listFault imageWords headerFault segments firstSegment laterSegments validSegment allValid pathFault tablesFault _orElse_ firstFault extent string isWhole stringFault sameBytes signed hashFrom hashNumbers hash allowed be
 examples-hold = tt

@@ -25,7 +25,11 @@ unfoldable pub _orElse_ : Fault → Fault → Fault
 _orElse_ v w = ifKept v w v
 
 -- the first broken rule among n things that are judged one after the other: the first stands at p,
--- each of the others a step further
-unfoldable pub firstFault : (ℕ → Fault) → ℕ → ℕ → ℕ → Fault
-firstFault judge step zero p = noFault
-firstFault judge step (suc n) p = judge p orElse firstFault judge step n (p + step)
+-- and `next` gives where the one behind stands
+unfoldable pub firstFault : (ℕ → Fault) → (ℕ → ℕ) → ℕ → ℕ → Fault
+firstFault judge next zero p = noFault
+firstFault judge next (suc n) p = judge p orElse firstFault judge next n (next p)
+
+-- a step further
+abbrev pub stepOn : ℕ → ℕ → ℕ
+stepOn step p = p + step

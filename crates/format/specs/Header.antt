@@ -8,7 +8,7 @@ use lib.Dec.{ltb, leb, eqb}
 use Rattle.format.specs.Layout.{headerSize, majorField, minorField, hashField, directoriesField, fieldSize, entryField, mostBytes, mostDirectories, longestPath}
 use Rattle.format.specs.Number.{be}
 use Rattle.format.specs.Part.{inside, listInside}
-use Rattle.format.specs.Fault.{unless, _orElse_, firstFault}
+use Rattle.format.specs.Fault.{unless, _orElse_, firstFault, stepOn}
 use Rattle.format.specs.String.{string, extent, stringFault}
 use Rattle.format.specs.Segments.{slash, validSegments}
 use Rattle.format.specs.declared.Fault.{Fault}
@@ -79,7 +79,7 @@ pathFault s i =
 
 -- the same on n paths from directory i on
 abbrev pub pathsFault : ℕ → List ℕ → ℕ → Fault
-pathsFault n s i = firstFault (pathFault s) 1 n i
+pathsFault n s i = firstFault (pathFault s) (stepOn 1) n i
 
 -- rules 1 to 6, 16 and 17
 unfoldable pub tablesFault : List ℕ → Fault

@@ -6,8 +6,11 @@ pub mod First
 pub mod Faults
 pub mod Numbers
 pub mod Reads
+pub mod Bytes
+pub mod Put
 pub mod Strings
 pub mod Extents
+pub mod Texts
 pub mod Hashes
 pub mod Names
 pub mod Segments

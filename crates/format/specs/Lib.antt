@@ -6,6 +6,7 @@
 pub mod Choice
 pub mod Layout
 pub mod Number
+pub mod Bytes
 pub mod Part
 pub mod Fault
 pub mod String

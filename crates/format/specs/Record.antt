@@ -8,7 +8,7 @@ use Rattle.format.specs.Choice.{if_then_else_}
 use Rattle.format.specs.Layout.{entriesAt, nameField, imagesField, imageSize, indexField, flagsField, dataField, mostImages, longestName, mostFlags, noDirectory}
 use Rattle.format.specs.Number.{be}
 use Rattle.format.specs.Part.{listInside}
-use Rattle.format.specs.Fault.{unless, _orElse_, firstFault}
+use Rattle.format.specs.Fault.{unless, _orElse_, firstFault, stepOn}
 use Rattle.format.specs.String.{string, extent, stringFault, spellsName, hash}
 use Rattle.format.specs.Header.{buckets, directories}
 use Rattle.format.specs.declared.Fault.{Fault}
@@ -40,6 +40,10 @@ images s r = be 4 s (imagesAt s r)
 abbrev pub validIndex : ℕ → ℕ → Bool
 validIndex n i = if eqb n 0 then eqb i noDirectory else ltb i n
 
+-- what rule 11 asks of an image's index i and flags, where there are n directories
+abbrev pub validIndexFlags : ℕ → ℕ → ℕ → Bool
+validIndexFlags n i flags = validIndex n i && leb flags mostFlags
+
 -- what rule 9 asks of the name of record r on bucket k's chain
 abbrev pub ownBucket : List ℕ → ℕ → ℕ → Bool
 ownBucket s k r = eqb (bucketOf s (nameOf s r)) k
@@ -50,14 +54,14 @@ validImageList s p = listInside s p imageSize && leb (be 4 s p) mostImages
 
 -- what rule 11 asks of the image at p
 abbrev pub validImage : List ℕ → ℕ → Bool
-validImage s p = validIndex (directories s) (be 2 s (indexField p)) && leb (be 2 s (flagsField p)) mostFlags
+validImage s p = validIndexFlags (directories s) (be 2 s (indexField p)) (be 2 s (flagsField p))
 
 -- rule 11 on the image at p, and on m images from p on
 abbrev pub imageFault : List ℕ → ℕ → Fault
 imageFault s p = unless (validImage s p) 11 p
 
 abbrev pub imagesFault : ℕ → List ℕ → ℕ → Fault
-imagesFault m s p = firstFault (imageFault s) imageSize m p
+imagesFault m s p = firstFault (imageFault s) (stepOn imageSize) m p
 
 -- on the record r of bucket k's chain: rules 8, 17 and 9 (its name), 10 and 11 (its images), all
 unfoldable pub nameFault : List ℕ → ℕ → ℕ → Fault

@@ -1,10 +1,13 @@
--- The segments of a path, and which of them it may not have: document 02, request 4.
+-- The segments of a path, and which of them it may not have: document 02, request 4. What a path by
+-- itself may be: request 8.
 use Prim.Native.Nat.{ℕ}
 use mathlib.Core.List.{List, [], _∷_}
 use mathlib.Core.Bool.{Bool, true, not, _&&_}
+use lib.ListN.{getD}
 use lib.Dec.{eqb}
 use Rattle.format.specs.Choice.{if_then_else_}
-use Rattle.format.specs.String.{sameBytes}
+use Rattle.format.specs.Layout.{longestPath}
+use Rattle.format.specs.String.{sameBytes, textWithin}
 
 -- "/" and "."
 abbrev pub slash : ℕ
@@ -39,3 +42,8 @@ allValid (t ∷ ts) = validSegment t && allValid ts
 -- what rule 16 asks of a path
 abbrev pub validSegments : List ℕ → Bool
 validSegments path = allValid (segments path)
+
+-- a path by itself, as a catalogue holds it: 1 to 1,023 bytes, none of them zero, no slash first (6),
+-- and valid segments (16)
+unfoldable pub allowedPath : List ℕ → Bool
+allowedPath t = textWithin longestPath t && not (eqb (getD t 0 0) slash) && validSegments t

@@ -2,7 +2,7 @@
 -- given by the part of the buffer from its offset on.
 use Prim.Native.Nat.{ℕ, zero, suc, _+_, _-_, _*_, _%_, _^_}
 use mathlib.Core.List.{List, [], _∷_, map}
-use mathlib.Core.Bool.{Bool, true, false, _&&_}
+use mathlib.Core.Bool.{Bool, true, false, _&&_, _||_}
 use lib.ListN.{length}
 use lib.Dec.{ltb, leb, eqb}
 use Rattle.format.specs.Choice.{if_then_else_}
@@ -50,6 +50,11 @@ sameBytes [] (b ∷ t) = false
 sameBytes (a ∷ s) [] = false
 sameBytes (a ∷ s) (b ∷ t) = eqb a b && sameBytes s t
 
+-- t is one of the texts
+unfoldable pub among : List ℕ → List (List ℕ) → Bool
+among t [] = false
+among t (u ∷ us) = sameBytes t u || among t us
+
 -- the string at the front of t is whole, as a name, and is `name`
 abbrev pub spellsName : List ℕ → List ℕ → Bool
 spellsName t name = isWhole (extent longestName t) && sameBytes (string t) name
@@ -73,6 +78,10 @@ hashNumbers (n ∷ t) = hashFrom n t
 unfoldable pub hash : List ℕ → ℕ
 hash name = hashNumbers (map signed name)
 
--- a name that may be asked for has 1 to 255 bytes, none of them zero
+-- a text of 1 to `limit` bytes, none of them zero
+abbrev pub textWithin : ℕ → List ℕ → Bool
+textWithin limit t = ltb 0 (length t) && leb (length t) limit && eqb (length (string t)) (length t)
+
+-- a name that may be asked for
 unfoldable pub allowed : List ℕ → Bool
-allowed name = ltb 0 (length name) && leb (length name) longestName && eqb (length (string name)) (length name)
+allowed name = textWithin longestName name

@@ -5,12 +5,13 @@ use mathlib.Core.Bool.{Bool, true, _&&_}
 use lib.ListN.{take}
 use lib.Dec.{T, eqb}
 use Rattle.format.specs.Number.{be}
+use Rattle.format.specs.Bytes.{put}
 use Rattle.format.specs.Fault.{_orElse_, firstFault}
 use Rattle.format.specs.String.{string, extent, isWhole, stringFault, sameBytes, signed, hashFrom, hashNumbers, hash}
 use Rattle.format.specs.Header.{headerFault}
 use Rattle.format.specs.Record.{nameFault, listFault, recordFault}
 use Rattle.format.specs.Chain.{linkFault, follow, chain}
-use Rattle.format.specs.Farm.{farm, looped, patched}
+use Rattle.format.specs.Farm.{farm, looped}
 use Rattle.listing.specs.Listing.{position, handsBack, stays, positionFault, onward, step}
 use Rattle.listing.specs.declared.Position.{Position}
 use Rattle.listing.specs.declared.Step.{Step}
@@ -53,5 +54,5 @@ examples =
     []
 
 examples-hold : T (all examples)
-unfolding all answers samePosition examples looped patched farm step onward positionFault linkFault follow chain recordFault nameFault listFault headerFault _orElse_ firstFault extent string isWhole stringFault sameBytes signed hashFrom hashNumbers hash be
+unfolding all answers samePosition examples looped put farm step onward positionFault linkFault follow chain recordFault nameFault listFault headerFault _orElse_ firstFault extent string isWhole stringFault sameBytes signed hashFrom hashNumbers hash be
 examples-hold = tt

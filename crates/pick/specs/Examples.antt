@@ -5,6 +5,7 @@ use mathlib.Core.List.{List, [], _∷_, _++_}
 use mathlib.Core.Bool.{Bool, true, _&&_}
 use lib.Dec.{T, eqb}
 use Rattle.format.specs.Number.{be}
+use Rattle.format.specs.Bytes.{put}
 use Rattle.format.specs.Fault.{_orElse_, firstFault}
 use Rattle.format.specs.String.{string, extent, isWhole, stringFault, sameBytes, signed, hashFrom, hashNumbers, hash, allowed}
 use Rattle.format.specs.Header.{headerFault}
@@ -77,5 +78,5 @@ examples =
     []
 
 examples-hold : T (all examples)
-unfolding all picks examples fixed scalable threshold unknown bare patched farm cow pick wordsFault firstImage fits serves find searchBucket firstNamed queryFault linkFault follow chain recordFault nameFault listFault headerFault _orElse_ firstFault extent string isWhole stringFault sameBytes signed hashFrom hashNumbers hash allowed be
+unfolding all picks examples fixed scalable threshold unknown bare put farm cow pick wordsFault firstImage fits serves find searchBucket firstNamed queryFault linkFault follow chain recordFault nameFault listFault headerFault _orElse_ firstFault extent string isWhole stringFault sameBytes signed hashFrom hashNumbers hash allowed be
 examples-hold = tt

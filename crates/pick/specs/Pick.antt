@@ -8,7 +8,7 @@ use lib.Dec.{leb, eqb}
 use Rattle.format.specs.Choice.{if_then_else_}
 use Rattle.format.specs.Layout.{entriesAt, imageSize, indexField, noDirectory}
 use Rattle.format.specs.Number.{be}
-use Rattle.format.specs.Fault.{fault, unless, _orElse_, ifKept, firstFault}
+use Rattle.format.specs.Fault.{fault, unless, _orElse_, ifKept, firstFault, stepOn}
 use Rattle.format.specs.Header.{directories}
 use Rattle.format.specs.Record.{imagesAt, images}
 use Rattle.format.specs.Call.{find}
@@ -79,7 +79,7 @@ abbrev pub kindFault : List ℕ → ℕ → Fault
 kindFault w q = unless (knownKind (getD w q 0)) 32 q
 
 abbrev pub kindsFault : ℕ → List ℕ → Fault
-kindsFault n w = firstFault (kindFault w) wordsEach n 0
+kindsFault n w = firstFault (kindFault w) (stepOn wordsEach) n 0
 
 -- what is judged of the lent words: 31 unless there are six for each directory, then 32
 unfoldable pub wordsFault : List ℕ → List ℕ → Fault

@@ -76,7 +76,7 @@ back-repeats s k n b =
 
 -- a round that is found from step m on, seen from the start
 module _ (s : List ℕ) (f m : ℕ) where
-  ahead-adds : (n : ℕ) → ahead s f (m + n) ≡ ahead s (ahead s f m) n
+  pub ahead-adds : (n : ℕ) → ahead s f (m + n) ≡ ahead s (ahead s f m) n
   unfolding ahead
   ahead-adds zero = rw (add-zero m)
   ahead-adds (suc n) = rw (add-suc m n) (ap (be 4 s) (ahead-adds n))

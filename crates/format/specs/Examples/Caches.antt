@@ -12,8 +12,8 @@ unfoldable pub none : List ℕ
 none = 255 ∷ 255 ∷ 255 ∷ 255 ∷ []
 
 -- a cache with another number below 256 in the field at an offset
-unfoldable pub put : ℕ → ℕ → List ℕ → List ℕ
-put p n s = patched p (small n) s
+unfoldable pub withField : ℕ → ℕ → List ℕ → List ℕ
+withField p n s = patched p (small n) s
 
 -- MAJOR 1 and MINOR 0, then HASH_OFFSET and DIRECTORY_LIST_OFFSET
 unfoldable pub header : ℕ → ℕ → List ℕ

@@ -3,7 +3,7 @@ use mathlib.Core.List.{List, [], _∷_}
 use lib.ListN.{take, replicate}
 use Rattle.format.specs.Answer.{accepted, refused, lookedUp, directoryIs}
 use Rattle.format.specs.Farm.{Example, checks, looksUp, names, farm, looped, patched, cow, oat, pig, lent}
-use Rattle.format.specs.Examples.Caches.{none, put, named, pathed, undirected, recordLast}
+use Rattle.format.specs.Examples.Caches.{none, withField, named, pathed, undirected, recordLast}
 
 unfoldable pub recordExamples : List Example
 recordExamples =
@@ -20,7 +20,7 @@ recordExamples =
     checks (take 1052 (pathed 1024)) (refused 6 24 0) ∷
     -- a path that begins at the end, and one past it
     names (take 28 (pathed 1)) 0 (directoryIs 17 24) [] ∷
-    names (put 24 200 (pathed 1)) 0 (directoryIs 17 24) [] ∷
+    names (withField 24 200 (pathed 1)) 0 (directoryIs 17 24) [] ∷
     -- "/p" cut off, and a path that is too long and begins with a slash
     checks (take 30 (patched 28 (47 ∷ []) (pathed 2))) (refused 17 24 0) ∷
     checks (patched 28 (47 ∷ []) (pathed 1024)) (refused 6 24 0) ∷
@@ -67,16 +67,16 @@ recordExamples =
 unfoldable pub loopExamples : List Example
 loopExamples =
     -- cow, alone in bucket 2, whose field is at 24, leads to itself
-    checks (put 52 52 farm) (refused 12 24 116) ∷
-    looksUp (put 52 52 farm) cow (lent 4) (lookedUp 0 52 2 1) (1 ∷ 0 ∷ 65540 ∷ 0 ∷ []) ∷
-    looksUp (put 52 52 farm) pig (lent 2) (lookedUp 12 24 0 116) (lent 2) ∷
-    looksUp (put 52 52 farm) oat (lent 2) (lookedUp 0 40 1 2) (1 ∷ 0 ∷ []) ∷
+    checks (withField 52 52 farm) (refused 12 24 116) ∷
+    looksUp (withField 52 52 farm) cow (lent 4) (lookedUp 0 52 2 1) (1 ∷ 0 ∷ 65540 ∷ 0 ∷ []) ∷
+    looksUp (withField 52 52 farm) pig (lent 2) (lookedUp 12 24 0 116) (lent 2) ∷
+    looksUp (withField 52 52 farm) oat (lent 2) (lookedUp 0 40 1 2) (1 ∷ 0 ∷ []) ∷
     -- loops in buckets 0 and 2
-    checks (put 52 52 looped) (refused 12 16 116) ∷
+    checks (withField 52 52 looped) (refused 12 16 116) ∷
     -- oat leads to itself, behind hen
-    checks (put 40 40 farm) (refused 12 16 116) ∷
+    checks (withField 40 40 farm) (refused 12 16 116) ∷
     -- a loop of hen and oat, whose name is at the end: another fault comes before 12
-    checks (put 44 126 looped) (refused 17 44 2) ∷
+    checks (withField 44 126 looped) (refused 17 44 2) ∷
     []
 
 -- in the two paths of the farm cache, at 108 and 111, with their fields at 100 and 104

@@ -3,7 +3,7 @@ use mathlib.Core.List.{List, [], _∷_, _++_}
 use lib.ListN.{take, replicate}
 use Rattle.format.specs.Answer.{accepted, refused, lookedUp, directoryIs}
 use Rattle.format.specs.Farm.{Example, checks, looksUp, names, farm, patched, oat, lent}
-use Rattle.format.specs.Examples.Caches.{put, header, bare, hashLast, twoInHeader}
+use Rattle.format.specs.Examples.Caches.{withField, header, bare, hashLast, twoInHeader}
 
 unfoldable pub tableExamples : List Example
 tableExamples =
@@ -18,11 +18,11 @@ tableExamples =
     -- MAJOR 2
     checks (patched 0 (0 ∷ 2 ∷ []) farm) (refused 3 0 0) ∷
     -- the directory list and the hash both at the end: 4 is named
-    checks (put 4 126 (put 8 126 farm)) (refused 4 8 0) ∷
-    looksUp (put 4 126 (put 8 126 farm)) oat (lent 2) (lookedUp 4 8 0 0) (lent 2) ∷
-    names (put 4 126 (put 8 126 farm)) 0 (directoryIs 4 8) [] ∷
+    checks (withField 4 126 (withField 8 126 farm)) (refused 4 8 0) ∷
+    looksUp (withField 4 126 (withField 8 126 farm)) oat (lent 2) (lookedUp 4 8 0 0) (lent 2) ∷
+    names (withField 4 126 (withField 8 126 farm)) 0 (directoryIs 4 8) [] ∷
     -- b of 0
-    checks (put 12 0 farm) (refused 5 4 0) ∷
+    checks (withField 12 0 farm) (refused 5 4 0) ∷
     -- b of 1, no directories, and the directory list ending at L
     checks bare (accepted 0 0) ∷
     names bare 0 (directoryIs 15 0) [] ∷
@@ -53,21 +53,21 @@ headerExamples =
     -- the same with the last byte cut
     checks (take 19 twoInHeader) (refused 5 4 0) ∷
     -- the directory list at 2 has no directories, so that hen's image has a wrong index
-    checks (put 8 2 farm) (refused 11 68 1) ∷
-    names (put 8 2 farm) 0 (directoryIs 15 0) [] ∷
+    checks (withField 8 2 farm) (refused 11 68 1) ∷
+    names (withField 8 2 farm) 0 (directoryIs 15 0) [] ∷
     -- the directory list at 8 has 8 directories, the first with an empty path
-    checks (put 8 8 farm) (refused 6 12 0) ∷
+    checks (withField 8 8 farm) (refused 6 12 0) ∷
     -- the second path at 11
-    checks (put 104 11 farm) (accepted 2 3) ∷
-    names (put 104 11 farm) 1 (directoryIs 0 0) (96 ∷ []) ∷
+    checks (withField 104 11 farm) (accepted 2 3) ∷
+    names (withField 104 11 farm) 1 (directoryIs 0 0) (96 ∷ []) ∷
     -- hen's name at 11: its hash is 96 and its bucket 0
-    checks (put 32 11 farm) (accepted 2 3) ∷
-    looksUp (put 32 11 farm) (96 ∷ []) (lent 3) (lookedUp 0 28 1 1) (1 ∷ 0 ∷ 7 ∷ []) ∷
+    checks (withField 32 11 farm) (accepted 2 3) ∷
+    looksUp (withField 32 11 farm) (96 ∷ []) (lent 3) (lookedUp 0 28 1 1) (1 ∷ 0 ∷ 7 ∷ []) ∷
     -- oat's image list at 2
-    checks (put 48 2 farm) (accepted 2 3) ∷
-    looksUp (put 48 2 farm) oat (lent 2) (lookedUp 0 40 0 2) (lent 2) ∷
+    checks (withField 48 2 farm) (accepted 2 3) ∷
+    looksUp (withField 48 2 farm) oat (lent 2) (lookedUp 0 40 0 2) (lent 2) ∷
     -- a record at 0: its name would be the hash's count
-    checks (put 16 0 farm) (refused 8 4 1) ∷
+    checks (withField 16 0 farm) (refused 8 4 1) ∷
     -- a record at 4: its name would be the directory list's count
-    checks (put 16 4 farm) (refused 8 8 1) ∷
+    checks (withField 16 4 farm) (refused 8 8 1) ∷
     []

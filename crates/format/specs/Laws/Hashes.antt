@@ -13,7 +13,7 @@ use Rattle.format.specs.Choice.{if_then_else_}
 use Rattle.format.specs.String.{string, signed, hashFrom, hashNumbers, hash, allowed}
 use Rattle.format.specs.Header.{buckets}
 use Rattle.format.specs.Record.{bucketOf}
-use Rattle.format.specs.Laws.Names.{allowed-string, allowed-short}
+use Rattle.format.specs.Laws.Texts.{allowed-tells}
 
 -- 127 counts as 127, 128 as -128 and 255 as -1
 ends : T (eqb (signed 127) 127 && eqb (signed 128) (2 ^ 32 - 128) && eqb (signed 255) (2 ^ 32 - 1))
@@ -63,7 +63,7 @@ hash-from-none (b ∷ t) small =
 
 -- a name that may be asked for is hashed whole: no zero byte cuts it, and it is not too long
 pub allowed-hash : (name : List ℕ) → allowed name ≡ true → hash (take 255 (string name)) ≡ hash name
-allowed-hash name e = ap hash (rw (allowed-string name e) (take-all 255 name (allowed-short name e)))
+allowed-hash name e = ap hash (rw (allowed-tells name e .uncut) (take-all 255 name (allowed-tells name e .within)))
 
 -- the bucket of a name from its hash and the count of the buckets
 pub hash-bucket : (s name : List ℕ) {h b : ℕ} → h ≡ hash name → b ≡ buckets s → h % b ≡ bucketOf s name

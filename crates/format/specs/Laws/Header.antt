@@ -1,15 +1,16 @@
--- What a header that breaks none of the rules 1 to 5 tells, and which numbers a header can be
--- refused with.
+-- What a header that breaks none of the rules 1 to 5 tells, and that such a one breaks none; and
+-- which numbers a header can be refused with.
 use Prim.Native.Nat.{ℕ, _+_, _*_, _≤_, _<_}
-use mathlib.Core.Path.{_≡_}
+use mathlib.Core.Path.{_≡_, _∙_}
 use mathlib.Core.List.{List}
-use mathlib.Core.Bool.{and-eq-true-iff}
-use borrow.Author.Tests.{ltb-true, leb-true}
+use mathlib.Core.Bool.{true, and-eq-true-iff}
+use borrow.Author.Tests.{ltb-true, leb-true, lt-ltb, le-leb}
 use lib.ListN.{length}
-use Rattle.format.specs.Header.{headerFault, bucketsAt, buckets, directoriesAt, directories}
-use Rattle.format.specs.Laws.Faults.{orElse-none, unless-none}
+use Rattle.format.specs.Fault.{noFault}
+use Rattle.format.specs.Header.{validVersion, validDirectories, validBuckets, headerFault, bucketsAt, buckets, directoriesAt, directories}
+use Rattle.format.specs.Laws.Faults.{orElse-none, unless-none, unless-kept, kept-passes, also}
 use Rattle.format.specs.Laws.Numbers.{OneOf, headerNumbers, unless-one, orElse-one}
-use Rattle.format.specs.Laws.Reads.{list-ends}
+use Rattle.format.specs.Laws.Reads.{list-ends, list-inside}
 
 -- where the tables end, and how many entries they have
 pub record ValidHeader (s : List ℕ) : Type 0 where
@@ -37,6 +38,17 @@ header-valid s h =
       buckets-end = list-ends _ _ _ (hash .0);
       buckets-some = ltb-true _ _ (hash .1);
     }
+
+pub header-kept : (s : List ℕ) → validVersion s ≡ true → ValidHeader s → headerFault s ≡ noFault
+unfolding headerFault
+header-kept s version h =
+    let list : validDirectories s ≡ true = also (list-inside s _ _ (h .directories-end)) (le-leb _ _ (h .directories-few)) in
+    let table : validBuckets s ≡ true = also (list-inside s _ _ (h .buckets-end)) (lt-ltb _ _ (h .buckets-some)) in
+    kept-passes _ 1 0 _ (le-leb _ _ (h .header-inside))
+    ∙ kept-passes _ 2 0 _ (le-leb _ _ (h .not-too-long))
+    ∙ kept-passes _ 3 0 _ version
+    ∙ kept-passes _ 4 8 _ list
+    ∙ unless-kept _ 5 4 table
 
 pub header-number : (s : List ℕ) → OneOf headerNumbers (headerFault s .number)
 unfolding headerFault

@@ -1,17 +1,18 @@
--- Names: the comparison by their bytes is by what they are; and what a name is like that may be
--- asked for.
-use Prim.Native.Nat.{ℕ, zero, suc, _≤_, _<_}
-use mathlib.Core.Path.{_≡_, refl, sym, ap, _∙_}
+-- Names: the comparison by their bytes is by what they are; and how a part of a buffer spells one.
+use Prim.Native.Nat.{ℕ, zero, suc, _<_}
+use mathlib.Core.Path.{_≡_, refl, sym, _∙_}
+use mathlib.Core.Logic.{_⊎_, inl, inr}
 use mathlib.Core.List.{List, [], _∷_, _++_, List-discrete}
-use mathlib.Core.Bool.{true, false, _&&_, and-eq-true-iff, not-eq-not, false≢true}
+use mathlib.Core.Bool.{true, false, and-eq-true-iff, or-true, not-eq-not, false≢true}
 use native.Mathlib.Decide.{ℕ-discrete}
-use native.Mathlib.Omega.{arith}
-use borrow.Author.Tests.{ltb-true, leb-true, eqb-true, eq-eqb}
+use borrow.Author.Tests.{eqb-true, eq-eqb}
 use lib.ListN.{length, take, drop, getD, take-append-drop}
-use lib.Seq.{take-length, drop-cons}
-use lib.Dec.{ltb, leb, eqb}
-use Rattle.format.specs.String.{string, extent, isWhole, sameBytes, spellsName, allowed}
-use Rattle.format.specs.Laws.Strings.{string-front, WholeString, judgement, whole, whole-string}
+use lib.Seq.{drop-cons}
+use lib.Dec.{eqb}
+use Rattle.format.specs.String.{string, extent, isWhole, sameBytes, among, spellsName, allowed}
+use Rattle.format.specs.Laws.Faults.{also}
+use Rattle.format.specs.Laws.Strings.{string-front, whole-string}
+use Rattle.format.specs.Laws.Texts.{allowed-tells, ended-string, ended-whole}
 
 pub same-equal : (a b : List ℕ) → sameBytes a b ≡ true → a ≡ b
 unfolding sameBytes
@@ -34,36 +35,27 @@ other-unequal a b e q = false≢true (sym e ∙ rw q (equal-same b))
 pub equal-or-not : (a b : List ℕ) → Dec (a ≡ b)
 equal-or-not a b = List-discrete ℕ-discrete a b
 
--- a name that may be asked for: it has bytes, not too many, and is its own string, since no zero
--- byte cuts it
-module _ (name : List ℕ) (may : allowed name ≡ true) where
-  sized : (ltb 0 (length name) ≡ true) × (leb (length name) 255 ≡ true)
-  unfolding allowed
-  sized = and-eq-true-iff _ _ .0 (and-eq-true-iff _ _ .0 may .0)
+-- a name is one of a list and one name more, if it is that name or one of the list
+pub among-first : (n : List ℕ) (ms : List (List ℕ)) → among n (n ∷ ms) ≡ true
+unfolding among
+among-first n ms = rw (equal-same n)
 
-  pub allowed-some : 0 < length name
-  allowed-some = ltb-true _ _ (sized .0)
+pub among-rest : (n m : List ℕ) (ms : List (List ℕ)) → among n ms ≡ true → among n (m ∷ ms) ≡ true
+unfolding among
+among-rest n m ms e = rw (e, or-true)
 
-  pub allowed-short : length name ≤ 255
-  allowed-short = leb-true _ _ (sized .1)
-
-  pub allowed-string : string name ≡ name
-  unfolding allowed
-  allowed-string =
-      let same : length (string name) ≡ length name = eqb-true _ _ (and-eq-true-iff (ltb 0 (length name) && leb (length name) 255) _ .0 may .1) in
-      sym (string-front name) ∙ rw same (take-length name)
+pub among-either : (n m : List ℕ) (ms : List (List ℕ)) → among n (m ∷ ms) ≡ true → (n ≡ m) ⊎ (among n ms ≡ true)
+unfolding among
+among-either n m ms e = elim (equal-or-not n m) [
+  | yes h ↦ inl h
+  | no h ↦ inr (rw (unequal-other n m h) at e)
+]
 
 -- the part begins with the name and a zero byte
 pub record Begins (part name : List ℕ) : Type 0 where
   pub bytes : take (length name) part ≡ name
   pub room : length name < length part
   pub ended : getD part (length name) 0 ≡ 0
-
-string-until : (name rest : List ℕ) → string name ≡ name → string (name ++ 0 ∷ rest) ≡ name
-unfolding string
-string-until [] rest e = refl
-string-until (zero ∷ t) rest e = cc
-string-until (suc b ∷ t) rest e = ap (λ u. suc b ∷ u) (string-until t rest (cc))
 
 string-zero : (t : List ℕ) → getD t (length (string t)) 0 ≡ 0
 unfolding string
@@ -80,16 +72,9 @@ module _ (part name : List ℕ) where
       rw (← same) (record { bytes = string-front part; room = whole-string 255 part (both .0) .ended; ended = string-zero part })
 
   pub begins-spells : allowed name ≡ true → Begins part name → spellsName part name ≡ true
-  unfolding isWhole
   begins-spells may b =
-      let n = length name in
-      let parts : part ≡ name ++ 0 ∷ drop (suc n) part =
-      sym (take-append-drop n part) ∙ rw (drop-cons part n 0 (b .room), b .bytes, b .ended) in
-      let is : string part ≡ name = ap string parts ∙ string-until name (drop (suc n) part) (allowed-string name may) in
-      let long : length (string part) ≡ n = ap length is in
-      let whole-one : WholeString 255 part = record {
-        some = omega (arith, allowed-some name may);
-        within = omega (arith, allowed-short name may);
-        ended = omega (arith, b .room);
-      } in
-      rw (← (judgement 255 part (whole refl whole-one)), is) (equal-same name)
+      let rest = drop (suc (length name)) part in
+      let parts : part ≡ name ++ 0 ∷ rest =
+      sym (take-append-drop (length name) part) ∙ rw (drop-cons part (length name) 0 (b .room), b .bytes, b .ended) in
+      let text = allowed-tells name may in
+      also (ended-whole text rest parts) (rw (ended-string text rest parts) (equal-same name))

@@ -1,6 +1,6 @@
 -- Which numbers a judgement can give: 0, or one of a list; the test computes, so that a number that
 -- is not among them is refuted by it.
-use Prim.Native.Nat.{ℕ, zero, suc, _+_}
+use Prim.Native.Nat.{ℕ, zero, suc}
 use mathlib.Core.Path.{_≡_, refl, sym, _∙_}
 use mathlib.Core.List.{List, [], _∷_}
 use mathlib.Core.Bool.{Bool, true, false, _&&_, _||_, and-eq-true-iff, false≢true}
@@ -43,10 +43,10 @@ module _ {ns : List ℕ} where
   pub orElse-one : (x y : Fault) → OneOf ns (x .number) → OneOf ns (y .number) → OneOf ns ((x orElse y) .number)
   orElse-one x y h g = elim (ℕ-discrete (x .number) 0) [ yes kept ↦ rw (orElse-next x y kept) g | no broken ↦ rw (orElse-first x y broken) h ]
 
-  pub first-one : (judge : ℕ → Fault) (step n p : ℕ) → ((q : ℕ) → OneOf ns (judge q .number)) → OneOf ns (firstFault judge step n p .number)
+  pub first-one : (judge : ℕ → Fault) (next : ℕ → ℕ) (n p : ℕ) → ((q : ℕ) → OneOf ns (judge q .number)) → OneOf ns (firstFault judge next n p .number)
   unfolding firstFault
-  first-one judge step zero p each = record { one = refl }
-  first-one judge step (suc n) p each = orElse-one _ _ (each p) (first-one judge step n (p + step) each)
+  first-one judge next zero p each = record { one = refl }
+  first-one judge next (suc n) p each = orElse-one _ _ (each p) (first-one judge next n (next p) each)
 
 -- more numbers
 abbrev pub includes : List ℕ → List ℕ → Bool

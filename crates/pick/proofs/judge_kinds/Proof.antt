@@ -5,14 +5,14 @@ use mathlib.Core.Path.{_≡_, refl, sym, _∙_}
 use native.Mathlib.Omega.{arith}
 use borrow.Author.Tests.{le-leb, lt-leb}
 use lib.ListN.{length}
-use Rattle.format.specs.Fault.{firstFault}
+use Rattle.format.specs.Fault.{firstFault, stepOn}
 use Rattle.format.specs.Laws.Faults.{unless-broken, first-end, first-stop, first-go-on}
 use Rattle.pick.specs.Pick.{kindFault, kindsFault}
 use Rattle.pick.proofs.judge_kinds.Statement.{statement}
 use Rattle.pick.proofs.judge_kinds.Tie as tie
 
 abbrev Inv-loop : tie.InvT-loop
-Inv-loop words n left₀ at₀ left at = (at + 6 * left ≡ length words) × (firstFault (kindFault words) 6 left at ≡ kindsFault n words)
+Inv-loop words n left₀ at₀ left at = (at + 6 * left ≡ length words) × (firstFault (kindFault words) (stepOn 6) left at ≡ kindsFault n words)
 
 abbrev μ-loop : tie.MeasureT-loop
 μ-loop words n left₀ at₀ left at = left
