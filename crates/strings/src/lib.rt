@@ -3,11 +3,12 @@
 // be asked for. A string is handed over as the part of the buffer from its offset on.
 ghost use mathlib.Core.Path.{_≡_};
 ghost use mathlib.Core.Bool.{true, _&&_};
-ghost use Prim.Native.Nat.{_-_, _*_, _%_, _^_, _≤_};
+ghost use mathlib.Core.List.{List};
+ghost use Prim.Native.Nat.{ℕ, _-_, _*_, _%_, _^_, _≤_};
 ghost use lib.ListN.{length, take, drop};
-ghost use Rattle.format.specs.String.{string, extent, stringFault, spellsName, hash, allowed};
+ghost use Rattle.format.specs.String.{string, extent, stringFault, spellsName, hash, textWithin, allowed};
 ghost use Rattle.format.specs.String as definition;
-ghost use Rattle.format.specs.Segments.{validSegment, validSegments};
+ghost use Rattle.format.specs.Segments.{validSegment, validSegments, allowedPath};
 use format::Extent;
 use format::Fault;
 use std::num::wrapping_add_u8;
@@ -221,28 +222,45 @@ pub fn spells(part: &[u8], name: &[u8]) -> bool
     part[end] == 0
 }
 
+// Whether a text of `size` bytes has 1 to a limit of them and none is zero, by what the text is as
+// a string: it has no zero byte and is not too long just where it is cut off.
+fn within(size: usize, extent: Extent) -> bool
+    ensures { λ r. ⌜ ((limit : ℕ) (t : List ℕ) → size ≡ length t → extent ≡ definition.extent limit t → r ≡ textWithin limit t) ⌝ }
+{
+    if size == 0 {
+        return false;
+    }
+    match extent {
+        Extent::Cut => true,
+        _ => false,
+    }
+}
+
 // Whether `name` may be asked for, with 1 to 255 bytes and none of them zero, and its hash.
 pub fn asked(name: &[u8]) -> Query
     ensures allowed { λ r. ⌜ r .allowed ≡ allowed (now (name .entry)) ⌝ }
     ensures hash { λ r. ⌜ r .hash ≡ hash (take 255 (string (now (name .entry)))) ⌝ }
 {
     let read = read_name(name);
-    let hash = read.hash;
     let extent = read.extent;
-    if name.len() == 0 {
-        return Query {
-            allowed: false,
-            hash,
-        };
+    Query {
+        allowed: within(name.len(), extent),
+        hash: read.hash,
     }
-    match extent {
-        Extent::Cut => Query {
-            allowed: true,
-            hash,
-        },
-        _ => Query {
-            allowed: false,
-            hash,
-        },
+}
+
+// Whether `path` may stand in a catalogue: with 1 to 1,023 bytes and none of them zero, no slash
+// first, and valid segments.
+pub fn allowed_path(path: &[u8]) -> bool
+    ensures { λ r. ⌜ r ≡ allowedPath (now (path .entry)) ⌝ }
+{
+    let read = read_path(path);
+    let extent = read.extent;
+    if !within(path.len(), extent) {
+        return false;
     }
+    if path[0] == b'/' {
+        return false;
+    }
+    read.valid_segments
 }
