@@ -1,0 +1,36 @@
+-- `names::keys::compare` meets its contract: each kind of key has its own comparison.
+use mathlib.Core.Path.{_∙_}
+use borrow.Author.Needs.{needs}
+use Rattle.names.proofs.keys.compare.Statement.{statement}
+use Rattle.names.proofs.keys.compare.Tie as tie
+
+returns : tie.Need-returns
+returns c =
+    let parts = c .before in
+    rw (parts .before .before .enum-told .given .1) (c .compare-strings .ensures ∙ rw (parts .before .from .ensures, parts .from2 .ensures))
+
+returns-2 : tie.Need-returns-2
+returns-2 c =
+    let names = c .before in
+    rw (names .before .before .enum-told2 .given .1) (c .compare-bytes .ensures ∙ rw (names .before .name-after .ensures, names .name-after2 .ensures))
+
+returns-3 : tie.Need-returns-3
+returns-3 c = rw (c .before .enum-told3 .given .1) (c .compare-numbers .ensures)
+
+pub compare-spec : {M : Type 1} → statement M
+compare-spec =
+    tie.close
+    (tie.spec
+    (λ c. search needs)
+    (λ c κs. search needs)
+    (λ c κs. search needs)
+    (λ c κs. search needs)
+    (λ c. search needs)
+    (λ c κs. search needs)
+    (λ c κs. search needs)
+    (λ c κs. search needs)
+    (λ c. search needs)
+    (λ c κs. search needs)
+    returns
+    returns-2
+    returns-3)

@@ -1,0 +1,4 @@
+pub mod Order
+pub mod Between
+pub mod Index
+pub mod Repeat
