@@ -1,6 +1,7 @@
 /*
  * Checks a cache, prints the images of one icon, each with its directory and flags, two short pages
- * of the icons, and which image of the icon is picked for some sizes: example CACHE NAME
+ * of the icons, and which image of the icon is picked for some sizes, and lists the cache as a
+ * catalogue and writes it again: example CACHE NAME
  */
 #include "icon_cache.h"
 
@@ -201,6 +202,43 @@ static void pick_some(const char *name)
     pick(name, 16, unknown_type, 12);
 }
 
+static uint8_t catalogue[LARGEST];
+static uint8_t written[LARGEST];
+
+/* Prints what a call that writes has answered. Returns whether it has written. */
+static int say_written(const char *call, uint32_t number, size_t place, size_t length)
+{
+    if (number != 0) {
+        printf("%s: answer %u at %zu\n", call, (unsigned)number, place);
+        return 0;
+    }
+    printf("%s: %zu bytes\n", call, length);
+    return 1;
+}
+
+/*
+ * Lists the cache as a catalogue, and writes a cache from that with seven buckets, which is listed
+ * alike. A bucket count of 0 and a catalogue without its last byte are refused.
+ */
+static void write_again(void)
+{
+    size_t place, listed, length;
+    uint32_t number = icon_cache_catalogue(cache, cache_len, catalogue, sizeof catalogue,
+                                           &place, &listed);
+    if (!say_written("catalogue", number, place, listed)) {
+        return;
+    }
+    number = icon_cache_write(catalogue, listed, 0, written, sizeof written, &place, &length);
+    say_written("write with no buckets", number, place, length);
+    number = icon_cache_write(catalogue, listed - 1, 7, written, sizeof written, &place, &length);
+    say_written("write what is cut off", number, place, length);
+    number = icon_cache_write(catalogue, listed, 7, written, sizeof written, &place, &length);
+    if (say_written("write with 7 buckets", number, place, length)) {
+        number = icon_cache_catalogue(written, length, catalogue, sizeof catalogue, &place, &listed);
+        say_written("catalogue of that", number, place, listed);
+    }
+}
+
 int main(int argc, char **argv)
 {
     if (argc != 3) {
@@ -214,5 +252,6 @@ int main(int argc, char **argv)
     int not_found = lookup(argv[2]);
     list(); /* what it refuses, the check has refused too */
     pick_some(argv[2]);
+    write_again();
     return refused || not_found;
 }

@@ -1,11 +1,12 @@
 /*
- * Reading an icon theme cache (icon-theme.cache): C99, usable from C++.
+ * Reading and writing an icon theme cache (icon-theme.cache): C99, usable from
+ * C++.
  *
- * Every function takes any bytes in the cache, any name, any words and any
- * number, and returns an answer number:
+ * Every function takes any bytes in the cache or the catalogue, any name, any
+ * words and any number, and returns an answer number:
  *
- *    0  accepted, found, handed back or picked   place: 0, the record found, or
- *                                                       the image picked
+ *    0  accepted, found, handed back, picked     place: 0, the record found, or
+ *       or written                                      the image picked
  *    1  fewer than 12 bytes                      place: 0
  *    2  more than 16,777,216 bytes               place: 0
  *    3  the version is not 1.0                   place: 0
@@ -31,6 +32,15 @@
  *   16  a piece of a path, cut at each "/", is   place: the path's field in the
  *       empty, "." or ".."                              directory list
  *   17  a name or a path runs off the end        place: as with 8 or 6
+ *   18  a field of a catalogue is cut off,       place: the field's first byte
+ *       breaks a rule or follows the end;
+ *       or the bucket count is not 1 to 4,096    place: 0
+ *   19  too little room, or a cache would be     place: 0
+ *       longer than 16,777,216 bytes
+ *   20  a name was used before                   place: its first byte in a
+ *                                                       catalogue; record + 4
+ *                                                       in a cache
+ *   21  more than 65,535 icons                   place: 0
  *   26  the position names no bucket, or its     place: 0
  *       count is more than the length less 11
  *   27  the flags are above 15, or the           place: 0
@@ -49,13 +59,14 @@
  * What the caller owes:
  *  - a pointer that comes with a length points to that many bytes or words, and
  *    is not NULL even where the length is 0;
- *  - cache, name and the words of the directories are not written to while a
- *    call runs, by any thread, and `words` does not overlap them;
+ *  - what is lent as const is not written to while a call runs, by any thread,
+ *    and what is written to, as `words`, does not overlap it;
  *  - each output pointer points to one object of its own; bucket and count are
  *    read too, so a number stands in both.
- * Nothing is kept after a call returns, nothing is allocated, and no call takes
- * more than 500 bytes of stack. Calls on different outputs may run at the same
- * time.
+ * Nothing is kept after a call returns, and nothing is allocated.
+ * icon_cache_write and icon_cache_catalogue take up to 300 KiB of stack, for an
+ * index of names or records; no other call takes more than 600 bytes. Calls on
+ * different outputs may run at the same time.
  */
 #ifndef ICON_CACHE_H
 #define ICON_CACHE_H
@@ -195,6 +206,73 @@ uint32_t icon_cache_pick(const uint8_t *cache, size_t cache_len,
                          uint32_t size, uint32_t scale,
                          const uint32_t *directories, size_t directories_len,
                          size_t *place);
+
+/*
+ * A catalogue says what a cache is to hold. With all numbers big-endian, it is
+ *
+ *    a count of directories, 2 bytes, and for each of them
+ *        the length of its path, 2 bytes, 1 to 1,023, and the path;
+ *    a count of icons, 2 bytes, and for each of them
+ *        the length of its name, 1 byte, not 0, and the name,
+ *        a count of images, 2 bytes, at most 1,024,
+ *        and for each image 8 bytes, as in a cache: the index of its directory
+ *        and its flags, 2 bytes each, and the offset of its data, 4 bytes.
+ *
+ * Each of these is a field. No text holds a zero byte, and no piece of a path,
+ * cut at each "/", is empty, "." or "..". An index is that of one of the
+ * directories, or 0xFFFF if there are none, and flags are at most 15. Nothing
+ * follows the last icon. No two icons have one name; paths may be equal.
+ *
+ * The offset of an image's data is handed on as it is, from a cache and into
+ * one, but the data is not: gtk-update-icon-cache --validate refuses a written
+ * Tango for its offsets, and accepts it with 0 in their place.
+ *
+ * icon_cache_write writes the cache of a catalogue with so many buckets:
+ * header, hash, records, image lists, directory list and strings, in the
+ * catalogue's order without gaps. The check accepts it, a lookup gives each
+ * name its images, and icon_cache_catalogue gives the catalogue's bytes back.
+ * With 0, *length is how many bytes were written at the front of `cache`, and
+ * the bytes beyond are as they were. With any other number *length is 0 and all
+ * are as they were.
+ *
+ * In this order it refuses
+ *
+ *    18  the first field that is cut off, breaks a rule or follows the end, at
+ *        its first byte. A length is judged before its text: one that reaches
+ *        past the end is good, and the text is cut off
+ *    20  the first name that was used before, at its text's first byte
+ *    18  a bucket count other than 1 to 4,096, at 0
+ *    19  too little room, or a cache above 16,777,216 bytes, at 0. A cache has
+ *        20 bytes, 4 for each bucket, for each directory 5 more than its path,
+ *        and for each icon 17 more than its name and its images
+ *
+ * It takes up to 300 KiB of stack. 65,535 icons take some tenths of a second.
+ */
+uint32_t icon_cache_write(const uint8_t *catalogue, size_t catalogue_len, size_t buckets,
+                          uint8_t *cache, size_t cache_len, size_t *place, size_t *length);
+
+/*
+ * Lists a cache as a catalogue: its directories, and its icons by rising offset
+ * of their records. With 0, *length is how many bytes were written at the front
+ * of `catalogue`, and the bytes beyond are as they were. With any other number
+ * *length is 0 and all are as they were. What is listed is a good catalogue:
+ * for 1 to 4,096 buckets the writer answers 0 to it, or 19.
+ *
+ * In this order it refuses
+ *
+ *        what icon_cache_check refuses, at the same places
+ *    20  the first name that was used before, in the order in which the check
+ *        meets the records, at record + 4 of the later one
+ *    21  more than 65,535 icons, at 0
+ *    19  too little room, at 0. Where no parts of the cache overlap, a catalogue
+ *        is shorter than its cache; else it may be much longer, up to 621 MB
+ *
+ * It takes up to 300 KiB of stack. 65,535 icons take some tenths of a second; a
+ * cache of 16 MiB that was made to cost time can take some seconds.
+ */
+uint32_t icon_cache_catalogue(const uint8_t *cache, size_t cache_len,
+                              uint8_t *catalogue, size_t catalogue_len,
+                              size_t *place, size_t *length);
 
 #ifdef __cplusplus
 }

@@ -9,6 +9,7 @@ ghost use Rattle.format.specs.Call.{check, lookup, lookupWords, directory, dire
 ghost use Rattle.pick.specs.Pick.{pickIs, pick};
 ghost use Rattle.listing.specs.Listing.{position, step, stepIs};
 ghost use Rattle.flags.specs.Flags.{flagsIs, flagsIn, flagsOut};
+ghost use Rattle.catalogue.specs.Call.{writeIs, write, writeLeaves, catalogueOf, catalogueLeaves};
 use listing::Position;
 
 #[no_mangle]
@@ -126,5 +127,38 @@ pub extern "C" fn icon_cache_flags_out(flags: u16, numbering: u32, raw: &mut u16
 {
     let answer = flags::flags_out(flags, numbering);
     *raw = answer.flags;
+    answer.number
+}
+
+#[no_mangle]
+pub extern "C" fn icon_cache_write(
+    catalogue: &[u8],
+    buckets: usize,
+    cache: &mut [u8],
+    place: &mut usize,
+    written: &mut usize,
+) -> u32
+    ensures answer { λ r. ⌜ writeIs r (now (place .exit)) (now (written .exit)) ≡ write (now (catalogue .entry)) buckets (length (now (cache .entry))) ⌝ }
+    ensures lent { λ r. ⌜ now (cache .exit) ≡ writeLeaves (now (catalogue .entry)) buckets (now (cache .entry)) ⌝ }
+{
+    let answer = write_cache::write(catalogue, buckets, cache);
+    *place = answer.place;
+    *written = answer.length;
+    answer.number
+}
+
+#[no_mangle]
+pub extern "C" fn icon_cache_catalogue(
+    cache: &[u8],
+    catalogue: &mut [u8],
+    place: &mut usize,
+    listed: &mut usize,
+) -> u32
+    ensures answer { λ r. ⌜ writeIs r (now (place .exit)) (now (listed .exit)) ≡ catalogueOf (now (cache .entry)) (length (now (catalogue .entry))) ⌝ }
+    ensures lent { λ r. ⌜ now (catalogue .exit) ≡ catalogueLeaves (now (cache .entry)) (now (catalogue .entry)) ⌝ }
+{
+    let answer = export::catalogue_of(cache, catalogue);
+    *place = answer.place;
+    *listed = answer.length;
     answer.number
 }
