@@ -1,5 +1,6 @@
 // The commands that ask, and print what is answered.
 use crate::answers;
+use crate::catalogues;
 use crate::icons;
 use crate::images;
 use crate::picks;
@@ -35,7 +36,9 @@ pub fn ask(case: &[u8], line: &[u8], w: Words, buffer: &[u8], length: usize) {
         b'c' => answers::check(case, cache),
         b'd' => answers::directory(case, cache, w.a),
         b'e' => icons::ask(case, cache),
+        b'g' => catalogues::list(case, cache, w.a, buffer),
         b'h' => answers::hash(case, script::rest(cache, w.a)),
+        b'm' => catalogues::write(case, cache, w.a, w.b, buffer),
         b'n' => answers::flags(w.a, w.b),
         b's' => step(case, cache, w.a, w.b),
         _ => {}

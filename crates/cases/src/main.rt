@@ -4,6 +4,7 @@
 mod answers;
 mod build;
 mod calls;
+mod catalogues;
 mod icons;
 mod images;
 mod picks;
