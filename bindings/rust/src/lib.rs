@@ -1,4 +1,4 @@
-//! Reads icon theme caches (`icon-theme.cache`).
+//! Reads and writes icon theme caches (`icon-theme.cache`).
 //!
 //! The cache is a lent byte slice; nothing in it is trusted. [`check`] judges
 //! the whole cache, [`lookup`] finds the images of one icon name, [`directory`]
@@ -6,7 +6,8 @@
 //! and [`records_from`] those from a [`Position`] on. [`Flags`] names the flags of
 //! an image by the [`Numbering`] of the cache's generator. [`pick`] chooses the
 //! image of an icon for a size; what the directories are made for is told by
-//! the words that a [`Theme`] gives.
+//! the words that a [`Theme`] gives. [`write`] makes a cache from a [`Catalogue`], and
+//! [`catalogue_of`] lists a cache as one.
 //!
 //! ```
 //! use icon_cache::{check, directory, lookup, records, FARM_CACHE};
@@ -27,7 +28,9 @@
 //! `index.theme` by a [`ThemeError`]. The module [`raw`] has the calls on caches
 //! without any allocation.
 
+mod catalogue;
 mod farm;
+mod field;
 mod flags;
 mod pick;
 pub mod raw;
@@ -35,7 +38,9 @@ mod records;
 mod refusal;
 mod theme;
 
+pub use catalogue::{catalogue_of, write, Catalogue, Icon, MOST_BUCKETS};
 pub use farm::FARM_CACHE;
+pub use field::Field;
 pub use flags::{Flags, Numbering};
 pub use pick::{pick, Picked, WORDS_PER_DIRECTORY};
 pub use raw::Position;

@@ -1,5 +1,6 @@
 //! The calls of the library as they are: an answer number, a place and counts.
-//! Nothing is allocated; found images go into the words lent.
+//! Nothing is allocated; found images go into the words lent, and what is written
+//! goes into the bytes lent.
 
 /// The answer of [`check`].
 #[derive(Clone, Copy, Debug, PartialEq, Eq)]
@@ -105,6 +106,17 @@ pub struct Pick {
     pub place: usize,
 }
 
+/// The answer of [`write`] and [`catalogue_of`].
+#[derive(Clone, Copy, Debug, PartialEq, Eq)]
+pub struct Written {
+    /// The answer number, 0 if something was written.
+    pub number: u32,
+    /// The offset of the fault in what was read, or 0 where it has none.
+    pub place: usize,
+    /// How many bytes were written, 0 with a refusal.
+    pub length: usize,
+}
+
 mod c {
     extern "C" {
         pub fn icon_cache_check(
@@ -167,6 +179,25 @@ mod c {
             directories_len: usize,
             place: *mut usize,
         ) -> u32;
+
+        pub fn icon_cache_write(
+            catalogue: *const u8,
+            catalogue_len: usize,
+            buckets: usize,
+            cache: *mut u8,
+            cache_len: usize,
+            place: *mut usize,
+            length: *mut usize,
+        ) -> u32;
+
+        pub fn icon_cache_catalogue(
+            cache: *const u8,
+            cache_len: usize,
+            catalogue: *mut u8,
+            catalogue_len: usize,
+            place: *mut usize,
+            length: *mut usize,
+        ) -> u32;
     }
 }
 
@@ -182,6 +213,15 @@ fn address(bytes: &[u8]) -> *const u8 {
         &NO_BYTES
     } else {
         bytes.as_ptr()
+    }
+}
+
+/// The same of bytes that are written to.
+fn lent_address(bytes: &mut [u8], no_bytes: &mut u8) -> *mut u8 {
+    if bytes.is_empty() {
+        no_bytes
+    } else {
+        bytes.as_mut_ptr()
     }
 }
 
@@ -359,4 +399,56 @@ pub fn pick(cache: &[u8], name: &[u8], size: u32, scale: u32, directories: &[u32
         )
     };
     Pick { number, place }
+}
+
+/// Writes the cache of a catalogue, with this many buckets, to the front of the
+/// bytes lent; those behind stay as they were, and so do all with a refusal. It
+/// needs 300 KiB of stack.
+pub fn write(catalogue: &[u8], buckets: usize, cache: &mut [u8]) -> Written {
+    let mut place = UNWRITTEN;
+    let mut length = UNWRITTEN;
+    let mut no_bytes = 0;
+    // SAFETY: the pointers are valid for the lengths given and for this call,
+    // and only the lent bytes and the two numbers are written.
+    let number = unsafe {
+        c::icon_cache_write(
+            address(catalogue),
+            catalogue.len(),
+            buckets,
+            lent_address(cache, &mut no_bytes),
+            cache.len(),
+            &mut place,
+            &mut length,
+        )
+    };
+    Written {
+        number,
+        place,
+        length,
+    }
+}
+
+/// Lists a cache as a catalogue, at the front of the bytes lent; those behind stay as
+/// they were, and so do all with a refusal. It needs 300 KiB of stack.
+pub fn catalogue_of(cache: &[u8], catalogue: &mut [u8]) -> Written {
+    let mut place = UNWRITTEN;
+    let mut length = UNWRITTEN;
+    let mut no_bytes = 0;
+    // SAFETY: the pointers are valid for the lengths given and for this call,
+    // and only the lent bytes and the two numbers are written.
+    let number = unsafe {
+        c::icon_cache_catalogue(
+            address(cache),
+            cache.len(),
+            lent_address(catalogue, &mut no_bytes),
+            catalogue.len(),
+            &mut place,
+            &mut length,
+        )
+    };
+    Written {
+        number,
+        place,
+        length,
+    }
 }

@@ -19,16 +19,18 @@ use std::fmt;
 /// ```
 #[derive(Clone, Copy, Debug, PartialEq, Eq)]
 pub struct Refusal {
-    /// The answer number, 1 to 17, 26, 27 or 30 to 32.
+    /// The answer number, 1 to 21, 26, 27 or 30 to 32.
     pub number: u32,
-    /// The offset of the fault in the cache, 0 where it has none. With
-    /// [`BAD_TYPE`](Refusal::BAD_TYPE) alone it is no offset: it is the index of the
-    /// type in the words lent.
+    /// The offset of the fault in the cache, 0 where it has none; from
+    /// [`write`](crate::write) and [`Catalogue`](crate::Catalogue) in the catalogue.
+    /// With [`BAD_TYPE`](Refusal::BAD_TYPE) alone it is no offset: it is the index of
+    /// the type in the words lent.
     pub place: usize,
     /// How many icon records the call opened. It is 0 from
-    /// [`directory`](crate::directory) and [`Flags`](crate::Flags), which open
-    /// none, and from [`Records`](crate::Records) and [`pick`](crate::pick), which
-    /// don't count them.
+    /// [`directory`](crate::directory), [`Flags`](crate::Flags),
+    /// [`write`](crate::write) and [`Catalogue`](crate::Catalogue), which open none, and
+    /// from [`Records`](crate::Records), [`pick`](crate::pick) and
+    /// [`catalogue_of`](crate::catalogue_of), which don't count them.
     pub opened: usize,
 }
 
@@ -71,6 +73,19 @@ impl Refusal {
     /// assert_eq!(directory(cut, 0), Err(path));
     /// ```
     pub const CUT_OFF: u32 = 17;
+    /// A field of a catalogue is cut off, breaks a rule or follows the end; the place is
+    /// its first byte, and [`Field::at`](crate::Field::at) tells which it is. Or the
+    /// bucket count is not 1 to 4,096, and the place is 0: of a field it is so only if
+    /// the catalogue has less than 2 bytes.
+    pub const BAD_FIELD: u32 = 18;
+    /// The cache would be longer than [`LARGEST`](crate::LARGEST), or, in
+    /// [`raw`](crate::raw), too few bytes are lent.
+    pub const DOES_NOT_FIT: u32 = 19;
+    /// A name was used before. The place is its first byte in the catalogue, or, from
+    /// [`catalogue_of`](crate::catalogue_of), the field in its record that names it.
+    pub const REPEATED_NAME: u32 = 20;
+    /// The cache has more than 65,535 icons, so no catalogue can list it.
+    pub const TOO_MANY_ICONS: u32 = 21;
     /// The position names no bucket, or its count is more than the cache's
     /// length less 11.
     pub const BAD_POSITION: u32 = 26;
@@ -107,6 +122,10 @@ impl fmt::Display for Refusal {
             15 => "there is no directory of this index",
             16 => "a piece of this directory path, cut at its slashes, is empty, \".\" or \"..\"",
             17 => "this name or directory path runs off the end: the cache may be cut short",
+            18 => "this field of the catalogue is cut off, breaks a rule or follows the end, or the bucket count is not 1 to 4,096",
+            19 => "there is too little room, or the cache would be longer than 16,777,216 bytes",
+            20 => "this name was used before",
+            21 => "there are more than 65,535 icons",
             26 => "the position asked for names no bucket, or its count is too large",
             27 => "the flags are above 15, or their numbering is unknown",
             30 => "there is no icon of this name",
@@ -143,6 +162,10 @@ mod tests {
             (Refusal::NO_SUCH_DIRECTORY, "no directory"),
             (Refusal::BAD_SEGMENT, "a piece of this directory path"),
             (Refusal::CUT_OFF, "runs off the end"),
+            (Refusal::BAD_FIELD, "this field of the catalogue"),
+            (Refusal::DOES_NOT_FIT, "too little room, or"),
+            (Refusal::REPEATED_NAME, "used before"),
+            (Refusal::TOO_MANY_ICONS, "more than 65,535 icons"),
             (Refusal::BAD_POSITION, "the position"),
             (Refusal::BAD_FLAGS, "the flags are above 15"),
             (Refusal::ABSENT, "no icon"),
@@ -155,9 +178,9 @@ mod tests {
 
     #[test]
     fn each_number_has_its_own_sentence() {
-        let numbers = (1..=17).chain([26, 27]).chain(30..=32);
+        let numbers = (1..=21).chain([26, 27]).chain(30..=32);
         let known: HashSet<_> = numbers.map(sentence).collect();
-        assert_eq!(known.len(), 22);
+        assert_eq!(known.len(), 26);
         assert!(!known.contains(&sentence(0)));
     }
 }

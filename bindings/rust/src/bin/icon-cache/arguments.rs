@@ -2,9 +2,12 @@
 
 use crate::input::is_standard_input;
 use crate::{help, show};
-use icon_cache::{Numbering, Position};
-use std::collections::HashMap;
+use icon_cache::{Numbering, Position, MOST_BUCKETS};
+use std::borrow::Cow;
+use std::collections::{HashMap, HashSet};
 use std::ffi::{OsStr, OsString};
+use std::mem;
+use std::os::unix::ffi::OsStrExt;
 
 /// What is asked for.
 pub enum Request {
@@ -27,6 +30,23 @@ pub enum Request {
         names: Vec<OsString>,
         wanted: Wanted,
     },
+    Write {
+        catalogue: OsString,
+        /// How many, or as many as the icons ask for.
+        buckets: Option<usize>,
+        target: Target,
+    },
+    Catalogue {
+        file: OsString,
+        target: Target,
+    },
+}
+
+/// Where a result goes.
+pub enum Target {
+    File(OsString),
+    /// What would be in the file is shown, flags in this numbering.
+    Text(Numbering),
 }
 
 /// What an image is picked for, and how its flags are shown.
@@ -48,40 +68,61 @@ struct Command {
     help: &'static str,
     /// The options that it takes, each with a value.
     options: &'static [&'static str],
+    /// Those that it takes without one.
+    switches: &'static [&'static str],
     /// Makes its request. The error says what is wrong with what is given.
     request: fn(Given) -> Result<Request, &'static str>,
 }
 
-const COMMANDS: [Command; 5] = [
+const COMMANDS: [Command; 7] = [
     Command {
         name: "check",
         help: help::CHECK,
         options: &[],
+        switches: &[],
         request: check,
     },
     Command {
         name: "lookup",
         help: help::LOOKUP,
         options: &[NUMBERING],
+        switches: &[],
         request: lookup,
     },
     Command {
         name: "dirs",
         help: help::DIRS,
         options: &[],
+        switches: &[],
         request: dirs,
     },
     Command {
         name: "list",
         help: help::LIST,
         options: &[FROM, LIMIT],
+        switches: &[],
         request: list,
     },
     Command {
         name: "pick",
         help: help::PICK,
         options: &[SIZE, SCALE, NUMBERING],
+        switches: &[],
         request: pick,
+    },
+    Command {
+        name: "write",
+        help: help::WRITE,
+        options: &[OUTPUT, BUCKETS, NUMBERING],
+        switches: &[TEXT],
+        request: write,
+    },
+    Command {
+        name: "catalogue",
+        help: help::CATALOGUE,
+        options: &[OUTPUT, NUMBERING],
+        switches: &[TEXT],
+        request: catalogue,
     },
 ];
 
@@ -90,13 +131,25 @@ const LIMIT: &str = "--limit";
 const NUMBERING: &str = "--numbering";
 const SIZE: &str = "--size";
 const SCALE: &str = "--scale";
+const OUTPUT: &str = "-o";
+const BUCKETS: &str = "--buckets";
+const TEXT: &str = "--text";
 
 /// What stands behind the name of a command.
 #[derive(Default)]
 struct Given {
     operands: Vec<OsString>,
     /// The values of its options. Of an option given twice the last counts.
-    values: HashMap<&'static str, String>,
+    values: HashMap<&'static str, OsString>,
+    switches: HashSet<&'static str>,
+}
+
+impl Given {
+    /// The value of an option. What is not UTF-8 is lost: only the name of a file has
+    /// such bytes.
+    fn text(&self, option: &str) -> Option<Cow<'_, str>> {
+        self.values.get(option).map(|value| value.to_string_lossy())
+    }
 }
 
 pub fn parse(mut arguments: impl Iterator<Item = OsString>) -> Result<Request, Misuse> {
@@ -135,33 +188,42 @@ fn request(
         match argument.to_str() {
             Some("-h" | "--help") => return Ok(Request::Help(command.help)),
             Some("--") => given.operands.extend(arguments.by_ref()),
-            _ if is_option(&argument) => {
-                let (name, value) = option(command, &argument, &mut arguments)?;
-                given.values.insert(name, value);
-            }
+            _ if is_option(&argument) => match switch(command, &argument) {
+                Some(switch) => {
+                    given.switches.insert(switch);
+                }
+                None => {
+                    let (name, value) = option(command, &argument, &mut arguments)?;
+                    given.values.insert(name, value);
+                }
+            },
             _ => given.operands.push(argument),
         }
     }
     (command.request)(given).or_else(|message| misuse(Some(command.name), message))
 }
 
+fn switch(command: &Command, argument: &OsStr) -> Option<&'static str> {
+    let mut switches = command.switches.iter();
+    switches.find(|switch| argument == **switch).copied()
+}
+
 /// An option and its value, which stands behind a `=` or is the next argument.
-/// What is not UTF-8 may be lost: no option and no value has such bytes.
 fn option(
     command: &Command,
     argument: &OsStr,
     arguments: &mut impl Iterator<Item = OsString>,
-) -> Result<(&'static str, String), Misuse> {
-    let text = argument.to_string_lossy();
-    let (name, value) = match text.split_once('=') {
-        Some((name, value)) => (name, Some(value.to_owned())),
-        None => (&*text, None),
+) -> Result<(&'static str, OsString), Misuse> {
+    let bytes = argument.as_bytes();
+    let (name, value) = match bytes.iter().position(|&byte| byte == b'=') {
+        Some(end) => (&bytes[..end], Some(OsStr::from_bytes(&bytes[end + 1..]))),
+        None => (bytes, None),
     };
-    let Some(option) = command.options.iter().find(|option| **option == name) else {
+    let mut options = command.options.iter();
+    let Some(option) = options.find(|option| option.as_bytes() == name) else {
         return unknown(Some(command.name), argument);
     };
-    let next = || Some(arguments.next()?.to_string_lossy().into_owned());
-    match value.or_else(next) {
+    match value.map(OsStr::to_owned).or_else(|| arguments.next()) {
         Some(value) => Ok((option, value)),
         None => misuse(Some(command.name), &format!("{option} takes a value")),
     }
@@ -188,17 +250,18 @@ fn lookup(given: Given) -> Result<Request, &'static str> {
     })
 }
 
-fn pick(given: Given) -> Result<Request, &'static str> {
+fn pick(mut given: Given) -> Result<Request, &'static str> {
     let numbering = numbering(&given)?;
-    let (theme, names) = with_names(given.operands, "a theme and a name are missing")?;
+    let operands = mem::take(&mut given.operands);
+    let (theme, names) = with_names(operands, "a theme and a name are missing")?;
     // Its files would be looked for in the working directory.
     if theme.is_empty() {
         return Err("the theme has no name");
     }
-    let size = given.values.get(SIZE).ok_or("--size is missing")?;
-    let size = word(size).ok_or("--size takes a number from 0 to 4294967295")?;
-    let scale = match given.values.get(SCALE) {
-        Some(value) => word(value).ok_or("--scale takes a number from 0 to 4294967295")?,
+    let size = given.text(SIZE).ok_or("--size is missing")?;
+    let size = word(&size).ok_or("--size takes a number from 0 to 4294967295")?;
+    let scale = match given.text(SCALE) {
+        Some(value) => word(&value).ok_or("--scale takes a number from 0 to 4294967295")?,
         None => 1,
     };
     let wanted = Wanted {
@@ -218,17 +281,52 @@ fn dirs(given: Given) -> Result<Request, &'static str> {
 }
 
 fn list(given: Given) -> Result<Request, &'static str> {
-    let from = match given.values.get(FROM) {
-        Some(value) => position(value).ok_or("--from takes a position, such as 0:2")?,
+    let from = match given.text(FROM) {
+        Some(value) => position(&value).ok_or("--from takes a position, such as 0:2")?,
         None => Position::START,
     };
-    let limit = match given.values.get(LIMIT) {
-        Some(value) => page_length(value).ok_or("--limit takes a number from 1 on")?,
+    let limit = match given.text(LIMIT) {
+        Some(value) => page_length(&value).ok_or("--limit takes a number from 1 on")?,
         // No cache has as many icons.
         None => usize::MAX,
     };
     let file = only_file(given.operands)?;
     Ok(Request::List { file, from, limit })
+}
+
+fn write(mut given: Given) -> Result<Request, &'static str> {
+    let buckets = match given.text(BUCKETS) {
+        Some(value) => Some(bucket_count(&value).ok_or("--buckets takes a number from 1 to 4096")?),
+        None => None,
+    };
+    let target = target(&mut given)?;
+    let catalogue = only_file(given.operands)?;
+    Ok(Request::Write {
+        catalogue,
+        buckets,
+        target,
+    })
+}
+
+fn catalogue(mut given: Given) -> Result<Request, &'static str> {
+    let target = target(&mut given)?;
+    let file = only_file(given.operands)?;
+    Ok(Request::Catalogue { file, target })
+}
+
+/// A dash is refused, since it stands for standard input elsewhere.
+fn target(given: &mut Given) -> Result<Target, &'static str> {
+    let numbering = numbering(given)?;
+    let shown = given.switches.contains(TEXT);
+    match given.values.remove(OUTPUT) {
+        Some(_) if shown => Err("-o and --text exclude one another"),
+        Some(file) if file.is_empty() || is_standard_input(&file) => {
+            Err("-o takes the name of a file")
+        }
+        Some(file) => Ok(Target::File(file)),
+        None if shown => Ok(Target::Text(numbering)),
+        None => Err("-o FILE or --text is missing"),
+    }
 }
 
 fn only_file(mut files: Vec<OsString>) -> Result<OsString, &'static str> {
@@ -255,7 +353,7 @@ fn with_names(
 }
 
 fn numbering(given: &Given) -> Result<Numbering, &'static str> {
-    match given.values.get(NUMBERING).map(String::as_str) {
+    match given.text(NUMBERING).as_deref() {
         None => Ok(Numbering::default()),
         Some("freedesktop") => Ok(Numbering::Freedesktop),
         Some("gtk") => Ok(Numbering::Gtk),
@@ -275,6 +373,10 @@ fn position(value: &str) -> Option<Position> {
 /// An empty page would lead nowhere.
 fn page_length(value: &str) -> Option<usize> {
     number(value).filter(|length| *length > 0)
+}
+
+fn bucket_count(value: &str) -> Option<usize> {
+    number(value).filter(|count| (1..=MOST_BUCKETS).contains(count))
 }
 
 /// A number in digits. The largest stands for all above: no cache has a position

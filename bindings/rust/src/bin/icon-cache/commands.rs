@@ -39,7 +39,7 @@ pub fn list(output: &mut Output, file: &OsStr, from: Position, limit: usize) -> 
     })
 }
 
-fn with_cache(
+pub fn with_cache(
     output: &mut Output,
     file: &OsStr,
     command: impl FnOnce(&mut Output, &str, &[u8]) -> Status,
@@ -90,14 +90,21 @@ fn check_file(output: &mut Output, file: &OsStr) -> Status {
                 output.line(&format!("{shown}: {accepted}: {icons}, {directories}"));
                 Status::Good
             }
-            // All paths are judged before a record is opened.
-            Err(refusal) if refusal.opened == 0 => say_path_refused(output, shown, &refusal),
-            Err(refusal) => say_refused(output, shown, &refusal),
+            Err(refusal) => say_check_refused(output, shown, &refusal),
         },
     )
 }
 
-fn say_refused(output: &mut Output, what: &str, refusal: &Refusal) -> Status {
+/// What the check refuses. All paths are judged before a record is opened.
+pub fn say_check_refused(output: &mut Output, what: &str, refusal: &Refusal) -> Status {
+    if refusal.opened == 0 {
+        say_path_refused(output, what, refusal)
+    } else {
+        say_refused(output, what, refusal)
+    }
+}
+
+pub fn say_refused(output: &mut Output, what: &str, refusal: &Refusal) -> Status {
     say_refused_for(output, what, &show::refusal(refusal))
 }
 

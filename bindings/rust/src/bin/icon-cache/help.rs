@@ -4,7 +4,8 @@ pub const VERSION: &str = concat!("icon-cache ", env!("CARGO_PKG_VERSION"));
 
 pub const TOOL: &str = "\
 Checks icon theme caches (icon-theme.cache), looks up icons in them, lists what
-they have and picks images for a size.
+they have, picks images for a size, writes caches from catalogues, and lists
+caches as such.
 
 Usage:
   icon-cache check FILE...                 say whether each cache is sound
@@ -12,6 +13,8 @@ Usage:
   icon-cache dirs FILE                     list the directories of a cache
   icon-cache list FILE                     list the icons of a cache, or a page
   icon-cache pick THEME NAME... --size N   pick each icon's image for a size
+  icon-cache write CATALOGUE -o FILE       write a cache from a catalogue
+  icon-cache catalogue FILE -o OUT         list a cache as a catalogue
 
 A directory as FILE stands for the icon-theme.cache in it, and - for standard
 input. THEME is the folder of a theme. After -- no argument is taken for an
@@ -22,9 +25,9 @@ Options:
   -V, --version   show the version
 
 Exit status:
-  0  accepted, found, listed or picked
+  0  accepted, found, listed, picked or written
   1  refused or absent, or no image fits
-  2  a wrong command line, or a file that can't be read
+  2  a wrong command line, or a file that can't be read or written
 
 On a terminal the output has colours, unless NO_COLOR is set and not empty, or
 TERM is dumb.";
@@ -138,3 +141,62 @@ cache.
 
 Exit status: 0 all picked, 1 one absent or refused or without an image that
 fits, 2 a file that can't be read.";
+
+pub const WRITE: &str = "\
+Writes a cache from a catalogue.
+
+Usage: icon-cache write CATALOGUE -o FILE [--buckets N]
+       icon-cache write CATALOGUE --text [--numbering freedesktop|gtk]
+
+A CATALOGUE is a file, or - for standard input. It has, one behind the other and
+with all numbers big-endian:
+
+  a count of directories, 2 bytes, and for each the length of its path, 2 bytes,
+  and the path, 1 to 1,023 bytes;
+  a count of icons, 2 bytes, and for each the length of its name, 1 byte, the
+  name, a count of images, 2 bytes, and for each image 8 bytes: the index of its
+  directory, its flags and the offset of its data, as in a cache. The data is
+  not written: gtk-update-icon-cache --validate may refuse an offset but 0.
+
+A catalogue that breaks a rule is refused, and so is one that has a name twice:
+the line says which field is wrong, at which offset (decimal and hex), and why.
+Directories, icons and images are counted from 0 on. One whose cache would be
+longer than 16,777,216 bytes is refused too.
+
+Options:
+  -o FILE       the cache to write. It takes the place of FILE only when it is
+                stored as a whole; with a refusal FILE stays as it was
+  --buckets N   how many buckets the cache has, 1 to 4096; if none is given, the
+                smallest prime not below the number of icons, at most 4093
+  --text        show the catalogue and write nothing
+  --numbering freedesktop|gtk
+                how flags are shown, as in `icon-cache lookup --help`
+
+Exit status: 0 written or shown, 1 refused, 2 a file that can't be read or
+written.";
+
+pub const CATALOGUE: &str = "\
+Lists a cache as a catalogue, from which `icon-cache write` makes a cache again
+if that is not longer than 16,777,216 bytes.
+
+Usage: icon-cache catalogue FILE -o OUT
+       icon-cache catalogue FILE --text [--numbering freedesktop|gtk]
+
+The icons stand in the order of their records in the cache. How a catalogue is
+built is told by `icon-cache write --help`.
+
+A directory as FILE stands for the icon-theme.cache in it, and - for standard
+input. A cache that `icon-cache check` refuses is refused alike, and so is one
+that has a name twice, or more than 65,535 icons. One that was made to cost time
+can take some seconds, and its catalogue may be much longer than the cache, up
+to 621 MB.
+
+Options:
+  -o OUT    the catalogue to write. It takes the place of OUT only when it is
+            stored as a whole; with a refusal OUT stays as it was
+  --text    show the catalogue and write nothing
+  --numbering freedesktop|gtk
+            how flags are shown, as in `icon-cache lookup --help`
+
+Exit status: 0 written or shown, 1 refused, 2 a file that can't be read or
+written.";

@@ -1,4 +1,4 @@
-//! Where a cache and the description of a theme come from.
+//! Where a cache, a catalogue and the description of a theme come from.
 
 use crate::show;
 use std::ffi::OsStr;
@@ -26,6 +26,14 @@ impl Source {
         } else {
             Source::File(path)
         }
+    }
+
+    /// A file that is no cache: a directory stands for none in it.
+    pub fn file_of(operand: &OsStr) -> Source {
+        if is_standard_input(operand) {
+            return Source::StandardInput;
+        }
+        Source::File(PathBuf::from(operand))
     }
 
     /// The cache in the folder of a theme.

@@ -1,12 +1,15 @@
 //! The tool `icon-cache`: checks caches, looks up icons, lists directories and
-//! icons, and picks images for a size.
+//! icons, picks images for a size, writes caches from catalogues, and lists caches
+//! as catalogues.
 
 mod arguments;
+mod catalogue;
 mod commands;
 mod help;
 mod input;
 mod output;
 mod pick;
+mod replace;
 mod show;
 
 use arguments::{Misuse, Request};
@@ -40,6 +43,12 @@ fn answer(output: &mut Output, request: Request) -> Status {
             names,
             wanted,
         } => pick::pick(output, &theme, &names, &wanted),
+        Request::Write {
+            catalogue,
+            buckets,
+            target,
+        } => catalogue::write(output, &catalogue, buckets, &target),
+        Request::Catalogue { file, target } => catalogue::list(output, &file, &target),
     }
 }
 

@@ -7,11 +7,11 @@ use std::process::ExitCode;
 /// The exit status; of several, the worst counts.
 #[derive(Clone, Copy, Debug, PartialEq, Eq, PartialOrd, Ord)]
 pub enum Status {
-    /// Accepted, found, listed or picked.
+    /// Accepted, found, listed, picked or written.
     Good = 0,
     /// Refused or absent, or no image fits.
     Refused = 1,
-    /// A wrong command line, or a file that can't be read.
+    /// A wrong command line, or a file that can't be read or written.
     Failed = 2,
 }
 
