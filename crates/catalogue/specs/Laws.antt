@@ -37,10 +37,5 @@ pub mod Written
 -- of the calls; and so the promises are kept
 pub mod Call
 pub mod Promise
--- of the code that judges a catalogue
-pub mod Judging
-pub mod Sections
-pub mod Repeating
-pub mod Bounds
 -- of the code that writes parts in a row
 pub mod Pass

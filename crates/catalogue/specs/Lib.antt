@@ -11,7 +11,6 @@ pub mod Catalogue
 pub mod Fields
 pub mod Judgement
 pub mod Repeats
-pub mod Judging
 pub mod LaidOut
 pub mod Serves
 pub mod Written

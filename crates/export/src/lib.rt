@@ -12,7 +12,7 @@ ghost use Rattle.format.specs.Chain.{allRecords};
 ghost use Rattle.catalogue.specs.Call.{catalogueOf, catalogueLeaves};
 ghost use Rattle.export.specs.Chains.{Sound};
 use catalogue::WriteAnswer;
-use catalogue::refusal;
+use judging::refusal;
 use tables::Tables;
 
 // The catalogue of an accepted cache with so many icons: 20, 21 and 19, and then its bytes. `index`

@@ -12,7 +12,7 @@ ghost use Rattle.catalogue.specs.Laws.Cursor.{IconThere};
 ghost use Rattle.write_cache.specs.Passes.{Judged, leads, bucketAt, appended, Ready};
 use bigendian::byte;
 use bigendian::put_u32;
-use catalogue::icon_end;
+use judging::icon_end;
 
 // The bucket, of `buckets`, of the name of the icon at `icon`.
 fn bucket(catalogue: &[u8], icon: usize, buckets: usize) -> usize

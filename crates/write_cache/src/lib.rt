@@ -13,9 +13,9 @@ ghost use Rattle.catalogue.specs.Written.{written};
 ghost use Rattle.catalogue.specs.Call.{writeLeaves};
 ghost use Rattle.catalogue.specs.Call as calls;
 ghost use Rattle.write_cache.specs.Passes.{Judged, Fits};
-use catalogue::Parts;
 use catalogue::WriteAnswer;
-use catalogue::refusal;
+use judging::Parts;
+use judging::refusal;
 
 // Puts the cache of a good catalogue into `out`, which has room for it.
 fn fill(catalogue: &[u8], parts: Parts, buckets: usize, out: &mut [u8])
@@ -51,7 +51,7 @@ pub fn write(catalogue: &[u8], buckets: usize, cache: &mut [u8]) -> WriteAnswer
     ensures answer { λ r. ⌜ r ≡ calls.write (now (catalogue .entry)) buckets (length (now (cache .entry))) ⌝ }
     ensures lent { λ _. ⌜ now (cache .exit) ≡ writeLeaves (now (catalogue .entry)) buckets (now (cache .entry)) ⌝ }
 {
-    let parts = catalogue::judge(catalogue);
+    let parts = judging::judge(catalogue);
     let fault = parts.fault;
     if fault.number != 0 {
         return refusal(fault.number, fault.place);

@@ -11,7 +11,7 @@ ghost use Rattle.write_cache.specs.Passes.{Judged};
 use bigendian::byte;
 use bigendian::put_u32;
 use bigendian::u16_at;
-use catalogue::icon_end;
+use judging::icon_end;
 
 // Puts the image list of the icon at `icon` into `out` at `place`: where it ends.
 fn list(catalogue: &[u8], icon: usize, out: &mut [u8], place: usize) -> usize

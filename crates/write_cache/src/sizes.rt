@@ -7,8 +7,8 @@ ghost use Rattle.catalogue.specs.Written.{listsUpTo, writtenSize};
 ghost use Rattle.write_cache.specs.Passes.{Judged, BeginsOf};
 use bigendian::byte;
 use bigendian::u16_at;
-use catalogue::Parts;
-use catalogue::icon_end;
+use judging::Parts;
+use judging::icon_end;
 
 // Where the parts of a cache begin that stand behind its records.
 pub struct Begins {

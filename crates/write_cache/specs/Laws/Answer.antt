@@ -14,11 +14,11 @@ use Rattle.format.specs.declared.Fault.{Fault}
 use Rattle.format.specs.Laws.Faults.{same-number, broken-takes, orElse-first, orElse-next, orElse-none, broken-speaks, kept-passes, unless-broken}
 use Rattle.catalogue.specs.Fields.{AreBytes, pathCount, iconCountAt, catalogueIn}
 use Rattle.catalogue.specs.Repeats.{catalogueFault}
-use Rattle.catalogue.specs.Judging.{Parted}
 use Rattle.catalogue.specs.Written.{writtenSize, written}
 use Rattle.catalogue.specs.Call.{writeIs, allowedBuckets, allowedSize, writeFault, write, writeLeaves}
-use Rattle.catalogue.specs.declared.Parts.{Parts}
 use Rattle.catalogue.specs.declared.WriteAnswer.{WriteAnswer}
+use Rattle.judging.specs.Judging.{Parted}
+use Rattle.judging.specs.declared.Parts.{Parts}
 use Rattle.write_cache.specs.Passes.{Judged}
 
 -- a catalogue that is judged good, by its parts

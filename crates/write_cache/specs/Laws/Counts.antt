@@ -15,7 +15,7 @@ use Rattle.catalogue.specs.Written.{listsUpTo, pathsUpTo, namesUpTo, writtenSiz
 use Rattle.catalogue.specs.Laws.Rows.{row-length, end-next}
 use Rattle.catalogue.specs.Laws.Spans.{number-fits}
 use Rattle.catalogue.specs.Laws.Judged.{told}
-use Rattle.catalogue.specs.Laws.Judging.{row-inside, icon-inside}
+use Rattle.judging.specs.Laws.Judging.{row-inside, icon-inside}
 use Rattle.write_cache.specs.Passes.{Judged}
 use Rattle.write_cache.specs.Laws.Paths.{path-size}
 use Rattle.write_cache.specs.Laws.Icons.{name-size, list-size}

@@ -17,8 +17,8 @@ use Rattle.catalogue.specs.LaidOut.{nthIcon, listBytes, stringBytes}
 use Rattle.catalogue.specs.Laws.Rows.{row-at, row-length, row-keeps, end-steps}
 use Rattle.catalogue.specs.Laws.Spans.{spans-are, part-length}
 use Rattle.catalogue.specs.Laws.Judged.{row-told, image-told}
-use Rattle.catalogue.specs.Laws.Judging.{icon-inside}
 use Rattle.catalogue.specs.Laws.Cursor.{IconThere, icon-there}
+use Rattle.judging.specs.Laws.Judging.{icon-inside}
 use Rattle.write_cache.specs.Passes.{Judged}
 
 module _ {c : List ℕ} {paths icons first : ℕ} (h : Judged c paths icons first) {i p : ℕ} (l : i < icons) (here : p ≡ rowEnd (iconEnd c) i first) where

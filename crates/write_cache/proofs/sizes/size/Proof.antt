@@ -6,7 +6,7 @@ use native.Mathlib.Omega.{arith}
 use borrow.Author.Needs.{needs}
 use lib.ListN.{length}
 use denote.Ref.{now}
-use Rattle.catalogue.specs.Laws.Bounds.{catalogue-short}
+use Rattle.judging.specs.Laws.Bounds.{catalogue-short}
 use Rattle.write_cache.specs.Passes.{Judged}
 use Rattle.write_cache.specs.Laws.Counts.{few-paths, few-icons, size-is}
 use Rattle.write_cache.proofs.sizes.size.Statement.{statement}
