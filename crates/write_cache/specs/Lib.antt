@@ -1,3 +1,3 @@
 -- What the functions of this crate hand to one another, and the laws that their proofs rest on.
-pub mod Passes
+pub mod Appending
 pub mod Laws

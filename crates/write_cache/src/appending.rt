@@ -9,10 +9,12 @@ ghost use Rattle.format.specs.String.{hash};
 ghost use Rattle.catalogue.specs.Fields.{nameText, catalogueIn};
 ghost use Rattle.catalogue.specs.Written.{places, front};
 ghost use Rattle.catalogue.specs.Laws.Cursor.{IconThere};
-ghost use Rattle.write_cache.specs.Passes.{Judged, leads, bucketAt, appended, Ready};
+ghost use Rattle.passes.specs.Passes.{Judged};
+ghost use Rattle.write_cache.specs.Appending.{leads, bucketAt, appended, Ready};
 use bigendian::byte;
 use bigendian::put_u32;
 use judging::icon_end;
+use passes::sizes::list_size;
 
 // The bucket, of `buckets`, of the name of the icon at `icon`.
 fn bucket(catalogue: &[u8], icon: usize, buckets: usize) -> usize
@@ -97,7 +99,7 @@ fn append_all(
     while i < icons {
         append(catalogue, icon, buckets, out, at, name, list, last);
         at += 12;
-        list += crate::sizes::list_size(catalogue, icon);
+        list += list_size(catalogue, icon);
         name += byte(catalogue, icon) as usize + 1;
         icon = icon_end(catalogue, icon);
         i += 1;

@@ -1,9 +1,6 @@
 // Writes a cache from a catalogue: header, hash, records, image lists, directory list and strings,
 // in catalogue order without gaps.
 mod appending;
-mod head;
-mod putting;
-mod sizes;
 
 ghost use mathlib.Core.Path.{_≡_};
 ghost use lib.ListN.{length};
@@ -12,10 +9,14 @@ ghost use Rattle.catalogue.specs.Fields.{catalogueIn};
 ghost use Rattle.catalogue.specs.Written.{written};
 ghost use Rattle.catalogue.specs.Call.{writeLeaves};
 ghost use Rattle.catalogue.specs.Call as calls;
-ghost use Rattle.write_cache.specs.Passes.{Judged, Fits};
+ghost use Rattle.passes.specs.Passes.{Judged};
+ghost use Rattle.write_cache.specs.Appending.{Fits};
 use catalogue::WriteAnswer;
 use judging::Parts;
 use judging::refusal;
+use passes::head;
+use passes::putting;
+use passes::sizes;
 
 // Puts the cache of a good catalogue into `out`, which has room for it.
 fn fill(catalogue: &[u8], parts: Parts, buckets: usize, out: &mut [u8])

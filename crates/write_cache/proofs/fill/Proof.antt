@@ -8,8 +8,8 @@ use lib.ListN.{length}
 use denote.Ref.{now}
 use Rattle.catalogue.specs.Fields.{catalogueIn}
 use Rattle.catalogue.specs.Written.{listsUpTo, pathsUpTo, namesUpTo, writtenSize}
-use Rattle.write_cache.specs.Passes.{BeginsOf}
-use Rattle.write_cache.specs.Laws.Counts.{icons-are, paths-are}
+use Rattle.passes.specs.Passes.{BeginsOf}
+use Rattle.passes.specs.Laws.Counts.{icons-are, paths-are}
 use Rattle.write_cache.specs.Laws.Filled.{ready, filled}
 use Rattle.write_cache.proofs.fill.Statement.{statement}
 use Rattle.write_cache.proofs.fill.Tie as tie

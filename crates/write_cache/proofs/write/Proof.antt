@@ -12,7 +12,8 @@ use Rattle.format.specs.Laws.Faults.{same-number}
 use Rattle.catalogue.specs.Fields.{AreBytes, catalogueIn}
 use Rattle.catalogue.specs.Repeats.{catalogueFault}
 use Rattle.catalogue.specs.Call.{writeIs, allowedBuckets}
-use Rattle.write_cache.specs.Passes.{Judged, Fits}
+use Rattle.passes.specs.Passes.{Judged}
+use Rattle.write_cache.specs.Appending.{Fits}
 use Rattle.write_cache.specs.Laws.Answer.{parts-judged, buckets-allowed, buckets-wrong, size-allowed, size-wrong, write-refused, leaves-all, catalogue-refused, buckets-refused, size-refused, write-done, leaves-written}
 use Rattle.write_cache.proofs.write.Statement.{statement}
 use Rattle.write_cache.proofs.write.Tie as tie

@@ -19,7 +19,7 @@ use Rattle.catalogue.specs.Call.{writeIs, allowedBuckets, allowedSize, writeFau
 use Rattle.catalogue.specs.declared.WriteAnswer.{WriteAnswer}
 use Rattle.judging.specs.Judging.{Parted}
 use Rattle.judging.specs.declared.Parts.{Parts}
-use Rattle.write_cache.specs.Passes.{Judged}
+use Rattle.passes.specs.Passes.{Judged}
 
 -- a catalogue that is judged good, by its parts
 pub parts-judged : {c : List ℕ} → AreBytes c → {a : Parts} → Parted c (catalogueFault c) (pathCount c) (iconCountAt c) a → a .fault .number ≡ 0

@@ -14,8 +14,9 @@ use Rattle.catalogue.specs.LaidOut.{firstIn, firstOf, headerBytes, tableBytes, 
 use Rattle.catalogue.specs.Written.{listsUpTo, pathsUpTo, namesUpTo, recordsBegin, listsBegin, directoriesBegin, pathsBegin, namesBegin, places, writtenSize, front, written}
 use Rattle.catalogue.specs.Laws.Front.{front-length}
 use Rattle.catalogue.specs.Laws.Tables.{table-length}
-use Rattle.write_cache.specs.Passes.{Judged, Fits, Ready, BeginsOf}
-use Rattle.write_cache.specs.declared.sizes.Begins.{Begins}
+use Rattle.passes.specs.Passes.{Judged, BeginsOf}
+use Rattle.passes.specs.declared.sizes.Begins.{Begins}
+use Rattle.write_cache.specs.Appending.{Fits, Ready}
 
 -- a header and a hash of empty buckets
 pub empty-front : (d : Catalogue) (b directories : ℕ) → directories ≡ directoriesBegin d b

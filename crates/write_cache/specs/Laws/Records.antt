@@ -22,9 +22,10 @@ use Rattle.catalogue.specs.Append.{lastIn, leadField}
 use Rattle.catalogue.specs.Laws.Rows.{end-next}
 use Rattle.catalogue.specs.Laws.Written.{part-inside}
 use Rattle.catalogue.specs.Laws.Grows.{lead-below, front-grows}
-use Rattle.write_cache.specs.Passes.{Judged, leads, bucketAt, appended, Ready}
-use Rattle.write_cache.specs.Laws.Icons.{icon-is, name-size, list-size}
-use Rattle.write_cache.specs.Laws.Counts.{icons-are}
+use Rattle.passes.specs.Passes.{Judged}
+use Rattle.passes.specs.Laws.Icons.{icon-is, name-size, list-size}
+use Rattle.passes.specs.Laws.Counts.{icons-are}
+use Rattle.write_cache.specs.Appending.{leads, bucketAt, appended, Ready}
 
 -- the records of i icons stand in the buffer, the next goes to `at`, with its name and list there,
 -- and `last` holds the last record of each bucket

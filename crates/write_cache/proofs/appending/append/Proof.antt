@@ -10,7 +10,7 @@ use denote.Ref.{now}
 use Rattle.format.specs.Bytes.{bytes, put}
 use Rattle.format.specs.String.{hash}
 use Rattle.catalogue.specs.Fields.{nameText}
-use Rattle.write_cache.specs.Passes.{leads, bucketAt}
+use Rattle.write_cache.specs.Appending.{leads, bucketAt}
 use Rattle.write_cache.proofs.appending.append.Statement.{statement}
 use Rattle.write_cache.proofs.appending.append.Tie as tie
 

@@ -8,7 +8,7 @@ use lib.ListN.{length}
 use denote.Ref.{now}
 use Rattle.catalogue.specs.Fields.{iconEnd, catalogueIn}
 use Rattle.catalogue.specs.Laws.Cursor.{IconThere}
-use Rattle.write_cache.specs.Laws.Icons.{icon-ends, there}
+use Rattle.passes.specs.Laws.Icons.{icon-ends, there}
 use Rattle.write_cache.specs.Laws.Records.{Reached, reached-first, Room, room, lead-room, reached-next}
 use Rattle.write_cache.proofs.appending.append_all.Statement.{statement}
 use Rattle.write_cache.proofs.appending.append_all.Tie as tie
