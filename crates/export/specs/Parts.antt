@@ -10,8 +10,8 @@ use Rattle.format.specs.Words.{Keeps}
 use Rattle.tables.specs.declared.Tables.{Tables}
 use Rattle.catalogue.specs.Catalogue.{mostIcons, pathBytes, iconBytes}
 use Rattle.catalogue.specs.Listed.{iconOf}
-use Rattle.export.specs.Chains.{Sound}
-use Rattle.export.specs.Order.{Ordered}
+use Rattle.gathering.specs.Chains.{Sound}
+use Rattle.gathering.specs.Order.{Ordered}
 use Rattle.export.specs.declared.parts.IconParts.{IconParts}
 
 -- r is a record of some chain

@@ -1,8 +1,6 @@
 // Lists an accepted cache as a catalogue: its paths by index, its icons by rising record offset.
-mod order;
 mod parts;
 mod putting;
-mod repeated;
 mod sizes;
 
 ghost use mathlib.Core.Path.{_≡_};
@@ -10,8 +8,10 @@ ghost use Prim.Native.Nat.{_≤_};
 ghost use lib.ListN.{length};
 ghost use Rattle.format.specs.Chain.{allRecords};
 ghost use Rattle.catalogue.specs.Call.{catalogueOf, catalogueLeaves};
-ghost use Rattle.export.specs.Chains.{Sound};
+ghost use Rattle.gathering.specs.Chains.{Sound};
 use catalogue::WriteAnswer;
+use gathering::order;
+use gathering::repeated;
 use judging::refusal;
 use tables::Tables;
 

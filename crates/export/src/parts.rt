@@ -7,7 +7,7 @@ ghost use Rattle.format.specs.String.{string, extent, isWhole};
 ghost use Rattle.format.specs.Header.{directories};
 ghost use Rattle.catalogue.specs.Catalogue.{iconBytes};
 ghost use Rattle.catalogue.specs.Listed.{iconOf};
-ghost use Rattle.export.specs.Chains.{Sound};
+ghost use Rattle.gathering.specs.Chains.{Sound};
 ghost use Rattle.export.specs.Parts.{Kept, partsOf, pathPiece};
 use bigendian::u32_at;
 use format::Extent;

@@ -1,6 +1,6 @@
 // What a cache that is written has beside its records: where its parts begin and how many bytes it
-// has, its header and a hash of empty buckets, and the parts that follow the records, each put by one
-// pass over the catalogue.
+// has, its header and a hash of empty buckets, and the parts that follow the records, each put by
+// one pass over the catalogue.
 pub mod head;
 pub mod putting;
 pub mod sizes;

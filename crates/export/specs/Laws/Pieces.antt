@@ -20,8 +20,8 @@ use Rattle.catalogue.specs.Call.{listedBytes}
 use Rattle.catalogue.specs.Laws.Rising.{firsts-length, map-firsts}
 use Rattle.catalogue.specs.Laws.Elements.{rising-few}
 use Rattle.catalogue.specs.Laws.Reader.{order-each-once}
-use Rattle.export.specs.Chains.{Sound}
-use Rattle.export.specs.Order.{Ordered}
+use Rattle.gathering.specs.Chains.{Sound}
+use Rattle.gathering.specs.Order.{Ordered}
 use Rattle.export.specs.Parts.{Kept, pathPiece, iconPiece, Indexed}
 
 firsts-at : {A : Type 0} (f : ℕ → A) (n i : ℕ) (d : A) → i < n → getD (firsts f n) i d ≡ f i

@@ -21,7 +21,7 @@ use Rattle.names.specs.Index.{Answered}
 use Rattle.names.specs.Laws.Index.{nothing-met, offsets-rise}
 use Rattle.catalogue.specs.Listed.{has}
 use Rattle.catalogue.specs.Laws.Rising.{has-some, rising-are}
-use Rattle.export.specs.Order.{Gathered, Ordered}
+use Rattle.gathering.specs.Order.{Gathered, Ordered}
 
 pub gathered-none : (index : List ℕ) → Gathered index 0 []
 unfolding among has

@@ -1,8 +1,8 @@
--- `export::order::take_in` meets its contract, whether the record was met before or not.
+-- `gathering::order::take_in` meets its contract, whether the record was met before or not.
 use borrow.Author.Needs.{needs}
-use Rattle.export.specs.Laws.Order.{gathered-more}
-use Rattle.export.proofs.order.take_in.Statement.{statement}
-use Rattle.export.proofs.order.take_in.Tie as tie
+use Rattle.gathering.specs.Laws.Order.{gathered-more}
+use Rattle.gathering.proofs.order.take_in.Statement.{statement}
+use Rattle.gathering.proofs.order.take_in.Tie as tie
 
 returns : tie.Need-returns
 returns c rs h = rw (c .if1 .taken) at (gathered-more h (c .before .before .before .met .ensures (h .met) (h .known)))

@@ -20,8 +20,8 @@ use Rattle.catalogue.specs.Repeats.{Use, useIs, repeatFault}
 use Rattle.catalogue.specs.Listed.{firsts, recordUses}
 use Rattle.catalogue.specs.Laws.Elements.{each-map, each-first}
 use Rattle.catalogue.specs.Laws.Repeats.{no-repeat, none-repeated}
-use Rattle.export.specs.Chains.{usesOf, chainRepeat}
-use Rattle.export.specs.Laws.Repeats.{passed, repeat-append, passed-append, passed-all, repeat-same}
+use Rattle.gathering.specs.Chains.{usesOf, chainRepeat}
+use Rattle.gathering.specs.Laws.Repeats.{passed, repeat-append, passed-append, passed-all, repeat-same}
 
 pub links-firsts : (s : List ℕ) (k n : ℕ) → links s k n ≡ firsts (link s k) n
 unfolding links firsts

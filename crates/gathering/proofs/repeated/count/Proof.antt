@@ -1,5 +1,5 @@
--- `export::repeated::count` meets its contract: the walk stands on the chain after the records that
--- it has counted.
+-- `gathering::repeated::count` meets its contract: the walk stands on the chain after the records
+-- that it has counted.
 use Prim.Native.Nat.{_-_, _<_}
 use native.Mathlib.Omega.{arith}
 use borrow.Author.Needs.{needs}
@@ -9,9 +9,9 @@ use denote.Ref.{now}
 use Rattle.format.specs.Laws.Apart.{holds-few}
 use Rattle.tables.specs.Laws.{same-field}
 use Rattle.chains.specs.Walk.{Stands}
-use Rattle.export.specs.Laws.Walks.{chain-holds, stands-first, stands-ended, stands-below, stands-next}
-use Rattle.export.proofs.repeated.count.Statement.{statement}
-use Rattle.export.proofs.repeated.count.Tie as tie
+use Rattle.gathering.specs.Laws.Walks.{chain-holds, stands-first, stands-ended, stands-below, stands-next}
+use Rattle.gathering.proofs.repeated.count.Statement.{statement}
+use Rattle.gathering.proofs.repeated.count.Tie as tie
 
 abbrev Inv-loop : tie.InvT-loop
 Inv-loop cache bucket field₀ n₀ field n = Stands cache bucket field n

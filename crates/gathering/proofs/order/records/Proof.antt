@@ -1,4 +1,4 @@
--- `export::order::records` meets its contract: the index has the records of the chains that are
+-- `gathering::order::records` meets its contract: the index has the records of the chains that are
 -- passed.
 use Prim.Native.Nat.{suc, _+_, _-_, _≤_}
 use mathlib.Core.Path.{_≡_, refl}
@@ -9,10 +9,10 @@ use denote.Ref.{now}
 use Rattle.format.specs.Header as header
 use Rattle.format.specs.Chain.{recordsBelow}
 use Rattle.tables.specs.Laws.{same-buckets}
-use Rattle.export.specs.Order.{Gathered}
-use Rattle.export.specs.Laws.Order.{gathered-none, gathered-ordered, fewer-below}
-use Rattle.export.proofs.order.records.Statement.{statement}
-use Rattle.export.proofs.order.records.Tie as tie
+use Rattle.gathering.specs.Order.{Gathered}
+use Rattle.gathering.specs.Laws.Order.{gathered-none, gathered-ordered, fewer-below}
+use Rattle.gathering.proofs.order.records.Statement.{statement}
+use Rattle.gathering.proofs.order.records.Tie as tie
 
 abbrev Inv-loop : tie.InvT-loop
 Inv-loop cache t index₀ buckets n₀ bucket₀ index n bucket = (length index ≡ length index₀) × (bucket ≤ buckets) × Gathered index n (recordsBelow cache bucket)

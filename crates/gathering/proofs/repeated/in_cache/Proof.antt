@@ -1,5 +1,5 @@
--- `export::repeated::in_cache` meets its contract: no name on the chains that are passed was used
--- before.
+-- `gathering::repeated::in_cache` meets its contract: no name on the chains that are passed was
+-- used before.
 use Prim.Native.Nat.{_-_, _≤_}
 use mathlib.Core.Path.{_≡_, sym, _∙_}
 use native.Mathlib.Numerals.{add-one}
@@ -7,9 +7,9 @@ use native.Mathlib.Omega.{arith}
 use lib.ListN.{length}
 use Rattle.format.specs.Laws.Faults.{same-number}
 use Rattle.tables.specs.Laws.{same-buckets}
-use Rattle.export.specs.Laws.Buckets.{PassedChains, chains-first, chains-next, chains-broken, chains-all}
-use Rattle.export.proofs.repeated.in_cache.Statement.{statement}
-use Rattle.export.proofs.repeated.in_cache.Tie as tie
+use Rattle.gathering.specs.Laws.Buckets.{PassedChains, chains-first, chains-next, chains-broken, chains-all}
+use Rattle.gathering.proofs.repeated.in_cache.Statement.{statement}
+use Rattle.gathering.proofs.repeated.in_cache.Tie as tie
 
 abbrev Inv-loop : tie.InvT-loop
 Inv-loop cache t index₀ buckets bucket₀ index bucket = (length index ≡ length index₀) × (bucket ≤ buckets) × PassedChains cache bucket

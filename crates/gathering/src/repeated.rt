@@ -8,7 +8,7 @@ ghost use Rattle.format.specs.Header.{buckets};
 ghost use Rattle.format.specs.Words.{Holds};
 ghost use Rattle.catalogue.specs.Repeats.{repeatFault};
 ghost use Rattle.catalogue.specs.Listed.{recordUses};
-ghost use Rattle.export.specs.Chains.{Sound, chainRepeat};
+ghost use Rattle.gathering.specs.Chains.{Sound, chainRepeat};
 use bigendian::u32_at;
 use format::Fault;
 use rounds::ahead;

@@ -26,7 +26,7 @@ use Rattle.names.specs.Repeat.{FirstRepeat, seen}
 use Rattle.names.specs.Laws.Repeat.{not-seen, seen-before}
 use Rattle.rounds.specs.Stepping.{ahead}
 use Rattle.repeats.specs.Along.{nameAlong, InsideAlong}
-use Rattle.export.specs.Chains.{usesOf, chainRepeat}
+use Rattle.gathering.specs.Chains.{usesOf, chainRepeat}
 
 -- the names before, after some uses more
 unfoldable pub passed : List (List ℕ) → List Use → List (List ℕ)

@@ -1,4 +1,4 @@
--- `export::order::take_chain` meets its contract: the walk stands on the chain after `step`
+-- `gathering::order::take_chain` meets its contract: the walk stands on the chain after `step`
 -- records, and the index has these and those of the chains before.
 use Prim.Native.Nat.{_-_, _<_, _≤_}
 use mathlib.Core.Path.{_≡_, refl, _∙_}
@@ -9,11 +9,11 @@ use denote.Ref.{now}
 use Rattle.format.specs.Laws.Apart.{holds-few}
 use Rattle.tables.specs.Laws.{same-field}
 use Rattle.chains.specs.Walk.{Stands}
-use Rattle.export.specs.Order.{Gathered}
-use Rattle.export.specs.Laws.Walks.{chain-holds, stands-first, stands-link, stands-ended, stands-below, stands-next}
-use Rattle.export.specs.Laws.Order.{reached, reached-first, reached-next, reached-all, reached-length}
-use Rattle.export.proofs.order.take_chain.Statement.{statement}
-use Rattle.export.proofs.order.take_chain.Tie as tie
+use Rattle.gathering.specs.Order.{Gathered}
+use Rattle.gathering.specs.Laws.Walks.{chain-holds, stands-first, stands-link, stands-ended, stands-below, stands-next}
+use Rattle.gathering.specs.Laws.Order.{reached, reached-first, reached-next, reached-all, reached-length}
+use Rattle.gathering.proofs.order.take_chain.Statement.{statement}
+use Rattle.gathering.proofs.order.take_chain.Tie as tie
 
 abbrev Inv-loop : tie.InvT-loop
 Inv-loop cache bucket index₀ n field₀ count₀ step₀ index field count step =

@@ -1,5 +1,5 @@
--- `export::repeated::on_chain` meets its contract: the first repeat along the chain is the one that
--- is refused.
+-- `gathering::repeated::on_chain` meets its contract: the first repeat along the chain is the one
+-- that is refused.
 use Prim.Native.Nat.{ℕ, _+_, _≤_}
 use mathlib.Core.Path.{_≡_, _∙_}
 use native.Mathlib.Omega.{arith}
@@ -9,9 +9,9 @@ use denote.Ref.{now}
 use Rattle.format.specs.Header.{bucketField}
 use Rattle.tables.specs.Laws.{same-field, field-inside}
 use Rattle.rounds.specs.Stepping.{ahead}
-use Rattle.export.specs.Laws.Repeats.{field-ends, chain-inside, chain-repeats, chain-repeats-none}
-use Rattle.export.proofs.repeated.on_chain.Statement.{statement}
-use Rattle.export.proofs.repeated.on_chain.Tie as tie
+use Rattle.gathering.specs.Laws.Repeats.{field-ends, chain-inside, chain-repeats, chain-repeats-none}
+use Rattle.gathering.proofs.repeated.on_chain.Statement.{statement}
+use Rattle.gathering.proofs.repeated.on_chain.Tie as tie
 
 abbrev start : tie.After-count → tie.Start
 start c = c .before .before .before .before
