@@ -2,26 +2,12 @@
 use Prim.Native.Nat.{ℕ, suc, _+_, _≤_, _<_}
 use mathlib.Core.Path.{_≡_}
 use mathlib.Core.List.{List}
-use mathlib.Core.Bool.{Bool, true, false}
 use lib.ListN.{length}
-use Rattle.format.specs.String.{sameBytes}
-use Rattle.format.specs.Record.{nameOf}
-use Rattle.format.specs.Chain.{follow, Chain, chainOf, opens, openedOn}
-use Rattle.format.specs.Words.{linkField, KeepsBelow, NoneBelow}
+use Rattle.format.specs.Chain.{Chain, chainOf, openedOn}
+use Rattle.format.specs.Words.{linkField, KeepsBelow}
 use Rattle.format.specs.Laws.Links.{Repeat}
-use Rattle.format.specs.declared.Next.{Next}
 use Rattle.format.specs.declared.Next.the-variants.{Record}
-use Rattle.chains.specs.declared.Seen.{Seen}
-use Rattle.chains.specs.declared.Sought.{Sought}
 use Rattle.chains.specs.declared.Walked.{Walked}
-
-abbrev pub seen : Next → Bool → Seen
-seen next bears = record { next = next; bears = bears }
-
--- what the field f leads to; where that is a record, whether it bears the name
-pub record Seeks (s name : List ℕ) (k f : ℕ) (a : Seen) : Type 0 where
-  pub next : a .next ≡ follow s k f
-  pub bears : (r : ℕ) → a .next ≡ Record r → a .bears ≡ sameBytes (nameOf s r) name
 
 -- how many records of a chain are opened, and what comes after those that keep the rules
 abbrev pub walked : Chain → Walked
@@ -50,16 +36,3 @@ pub record Judged (s : List ℕ) (k most : ℕ) (a : Walked) : Type 0 where
   pub few : stop ≤ most
   pub walk : a ≡ walked (chainOf s k stop)
   pub back : (r : ℕ) → a .after ≡ Record r → stop < most → Repeat s k (suc stop)
-
--- a search past at most `stop` records: where it stands, with none that bears the name behind it,
--- and what comes next; a record there bears the name, or is the last that may be looked at
-pub record SeeksTo (s name : List ℕ) (k stop : ℕ) (a : Sought) : Type 0 where
-  pub field : ℕ
-  pub passed : ℕ
-  pub stands : Stands s k field passed
-  pub few : passed ≤ stop
-  pub none : NoneBelow s name k passed
-  pub next : a .next ≡ follow s k field
-  pub opened : a .opened ≡ passed + opens (a .next)
-  pub met : (r : ℕ) → a .next ≡ Record r → a .bears ≡ true → nameOf s r ≡ name
-  pub unmet : (r : ℕ) → a .next ≡ Record r → a .bears ≡ false → (nameOf s r ≡ name → ⊥) × (passed ≡ stop)

@@ -1,24 +1,19 @@
-// A bucket's chain: what its fields lead to, the walk along it, and the search for a name on it.
+// A bucket's chain: what its fields lead to, and the walk along it.
 ghost use mathlib.Core.Path.{_≡_};
-ghost use mathlib.Core.Bool.{true, false};
 ghost use Prim.Native.Nat.{ℕ, _+_, _-_, _^_, _≤_, _<_};
 ghost use lib.ListN.{length};
-ghost use Rattle.format.specs.String.{allowed};
 ghost use Rattle.format.specs.Header.{buckets};
-ghost use Rattle.format.specs.Record.{bucketOf};
 ghost use Rattle.format.specs.Chain.{chainOf};
-ghost use Rattle.format.specs.Words.{KeepsBelow, NoneBelow};
+ghost use Rattle.format.specs.Words.{KeepsBelow};
 ghost use Rattle.format.specs.Chain as definition;
-ghost use Rattle.format.specs.Call.{searchBucket};
 ghost use Rattle.format.specs.Call as calls;
 ghost use Rattle.tables.specs.Tables.{TablesOf};
 ghost use Rattle.rounds.specs.Stepping.{InsideBelow};
 ghost use Rattle.rounds.specs.Stepping as rounds;
-ghost use Rattle.chains.specs.Walk.{seen, Seeks, walked, steppedTo, Stands, Further, Judged, SeeksTo};
+ghost use Rattle.chains.specs.Walk.{walked, steppedTo, Stands, Further, Judged};
 use bigendian::u32_at;
 use format::Found;
 use format::Next;
-use records::bears;
 use records::judge;
 use rounds::ahead;
 use rounds::turning;
@@ -29,27 +24,6 @@ use tables::bucket_field;
 pub struct Walked {
     pub opened: usize,
     pub after: Next,
-}
-
-// What a field leads to, and whether that is a record that bears the name looked for.
-struct Seen {
-    next: Next,
-    bears: bool,
-}
-
-// How many records of a chain were opened, what comes next, and whether that is a record that bears
-// the name looked for.
-struct Sought {
-    opened: usize,
-    next: Next,
-    bears: bool,
-}
-
-// No record that bears it.
-fn nameless(next: Next) -> Seen
-    ensures { λ r. ⌜ r ≡ seen next false ⌝ }
-{
-    Seen { next, bears: false }
 }
 
 // What the field at `field` leads to on the chain of `bucket`.
@@ -73,33 +47,8 @@ pub fn follow(cache: &[u8], t: Tables, bucket: u32, field: usize) -> Next
     Next::Record(record)
 }
 
-// The same, with a name of this bucket to look for. The record's name is compared with it first:
-// one that is equal keeps rules 8, 17 and 9, and isn't read again.
-fn seek(cache: &[u8], t: Tables, bucket: u32, field: usize, name: &[u8]) -> Seen
-    requires { ⌜ TablesOf (now cache) t ⌝ }
-    requires { ⌜ field + 4 ≤ length (now cache) ⌝ }
-    requires { ⌜ (allowed (now name) ≡ true) × (bucketOf (now cache) (now name) ≡ bucket) ⌝ }
-    ensures { λ r. ⌜ Seeks (now (cache .entry)) (now (name .entry)) bucket field r ⌝ }
-{
-    let value = u32_at(cache, field);
-    if value == 0xFFFF_FFFF {
-        return nameless(Next::End);
-    }
-    let record = value as usize;
-    if cache.len() < record + 12 {
-        return nameless(Next::Broken(7, field));
-    }
-    let bears = bears(cache, record, name);
-    let fault = judge(cache, t, bucket, record, bears);
-    if fault.number != 0 {
-        return nameless(Next::Broken(fault.number, fault.place));
-    }
-    let next = Next::Record(record);
-    Seen { next, bears }
-}
-
 // How many records are opened to see what comes next: the one that is named, if it lies inside.
-fn opens(next: Next) -> usize
+pub fn opens(next: Next) -> usize
     ensures { λ r. ⌜ r ≡ definition.opens next ⌝ }
 {
     match next {
@@ -173,7 +122,7 @@ pub fn further(opened: usize, most: usize) -> usize
 const SIGHT: usize = 16;
 
 // How far a walk looks ahead after `opened` records, and no further than `most`.
-fn horizon(opened: usize, most: usize) -> usize
+pub fn horizon(opened: usize, most: usize) -> usize
     requires { ⌜ (opened ≤ most) × (most < 2 ^ 32) ⌝ }
     ensures { λ r. ⌜ Further opened most r ⌝ }
 {
@@ -182,7 +131,7 @@ fn horizon(opened: usize, most: usize) -> usize
 
 // The rest of a walk that has come back to a record, and so has judged all that it will meet, or
 // that may open no more: from `field` on the records are stepped, and opened one by one.
-fn go_round(cache: &[u8], mut field: usize, mut opened: usize, most: usize) -> Walked
+pub fn go_round(cache: &[u8], mut field: usize, mut opened: usize, most: usize) -> Walked
     requires { ⌜ (opened ≤ most + 1) × (most < length (now cache)) × (length (now cache) ≤ 2 ^ 24) ⌝ }
     requires { ⌜ InsideBelow (now cache) field (most + 1 - opened) ⌝ }
     ensures { λ r. ⌜ r ≡ steppedTo (most + 1) (rounds.ahead (now (cache .entry)) field (most + 1 - opened)) ⌝ }
@@ -260,90 +209,5 @@ pub fn unnamed(field: usize, next: Next, opened: usize) -> Found
             place: field,
             opened,
         },
-    }
-}
-
-// The search for `name`, a name of `bucket`, from `field` on, where it stands after `opened`
-// records without it, past at most `stop` in all.
-fn stretch(
-    cache: &[u8],
-    t: Tables,
-    bucket: u32,
-    name: &[u8],
-    mut field: usize,
-    mut opened: usize,
-    stop: usize,
-) -> Sought
-    requires { ⌜ TablesOf (now cache) t ⌝ }
-    requires { ⌜ (allowed (now name) ≡ true) × (bucketOf (now cache) (now name) ≡ bucket) ⌝ }
-    requires { ⌜ Stands (now cache) bucket field opened × NoneBelow (now cache) (now name) bucket opened ⌝ }
-    requires { ⌜ (opened ≤ stop) × (stop < length (now cache)) ⌝ }
-    ensures { λ r. ⌜ SeeksTo (now (cache .entry)) (now (name .entry)) bucket stop r ⌝ }
-{
-    loop {
-        let seen = seek(cache, t, bucket, field, name);
-        let next = seen.next;
-        opened += opens(next);
-        let Next::Record(record) = next else {
-            return Sought {
-                opened,
-                next,
-                bears: false,
-            };
-        };
-        if seen.bears {
-            return Sought {
-                opened,
-                next,
-                bears: true,
-            };
-        }
-        if stop < opened {
-            return Sought {
-                opened,
-                next,
-                bears: false,
-            };
-        }
-        field = record;
-    }
-}
-
-// The first record that bears `name`, a name of `bucket`, on its chain.
-pub fn search(cache: &[u8], t: Tables, bucket: u32, name: &[u8]) -> Found
-    requires { ⌜ TablesOf (now cache) t ⌝ }
-    requires { ⌜ bucket < buckets (now cache) ⌝ }
-    requires { ⌜ (allowed (now name) ≡ true) × (bucketOf (now cache) (now name) ≡ bucket) ⌝ }
-    ensures { λ r. ⌜ r ≡ searchBucket (now (cache .entry)) (now (name .entry)) bucket ⌝ }
-{
-    let most = cache.len() - 11;
-    let first = bucket_field(t, bucket);
-    let mut field = first;
-    let mut opened = 0;
-    let mut stop = further(0, most);
-    let mut far = stop;
-    loop {
-        let sought = stretch(cache, t, bucket, name, field, opened, stop);
-        let next = sought.next;
-        opened = sought.opened;
-        let Next::Record(record) = next else {
-            return unnamed(first, next, opened);
-        };
-        if sought.bears {
-            return Found {
-                number: 0,
-                place: record,
-                opened,
-            };
-        }
-        // No record is to come that was not met, or none may be opened.
-        if stop == most || stop < far {
-            let rest = go_round(cache, record, opened, most);
-            let last = rest.after;
-            return unnamed(first, last, rest.opened);
-        }
-        far = horizon(opened, most);
-        stop = turning(cache, first, opened, record, far);
-        field = record;
     }
 }

@@ -139,7 +139,7 @@ pub fn find(cache: &[u8], name: &[u8]) -> Found
     }
     let t = tables::read(cache);
     let bucket = query.hash % t.buckets;
-    chains::search(cache, t, bucket, name)
+    search::search(cache, t, bucket, name)
 }
 
 // The answer with the images of `record`, after `opened` records. They go into `words` if there is

@@ -18,11 +18,12 @@ use Rattle.format.specs.Laws.Links.{Repeat}
 use Rattle.format.specs.Laws.Search.{search-unnamed, search-lasts}
 use Rattle.format.specs.declared.Next.the-variants.{Record}
 use Rattle.rounds.specs.Stepping.{InsideBelow, Turning}
-use Rattle.chains.specs.Walk.{Stands, Further, SeeksTo}
-use Rattle.chains.specs.declared.Sought.{Sought}
+use Rattle.chains.specs.Walk.{Stands, Further}
 use Rattle.chains.proofs.Way.{stands-stops, turning-repeats}
 use Rattle.chains.proofs.Back.{all-alike, turned-keeps, turned-inside}
-use Rattle.chains.proofs.Stretches.{sought-stands, sought-last, sought-none}
+use Rattle.search.specs.Seek.{SeeksTo}
+use Rattle.search.specs.declared.Sought.{Sought}
+use Rattle.search.proofs.Stretches.{sought-stands, sought-last, sought-none}
 
 -- it stands on the chain, with no record behind it that bears the name, and goes up to `stop`; if it
 -- was looked further, the chain has come back by then

@@ -1,4 +1,4 @@
--- `chains::stretch` meets its contract. The loop's invariant: the search stands on the chain, at
+-- `search::stretch` meets its contract. The loop's invariant: the search stands on the chain, at
 -- the present field, and no record passed bears the name.
 use Prim.Native.Nat.{ℕ, _+_, _-_, _≤_}
 use mathlib.Core.Path.{_≡_, refl, sym, ap, _∙_}
@@ -17,10 +17,11 @@ use Rattle.format.specs.Laws.Follow.{opens-one}
 use Rattle.format.specs.Laws.Names.{same-equal, other-unequal}
 use Rattle.format.specs.declared.Next.the-variants.{Record}
 use Rattle.tables.specs.Laws.{valid-header}
-use Rattle.chains.specs.Walk.{Stands, SeeksTo}
+use Rattle.chains.specs.Walk.{Stands}
 use Rattle.chains.proofs.Way.{leads-link, leads-on}
-use Rattle.chains.proofs.stretch.Statement.{statement}
-use Rattle.chains.proofs.stretch.Tie as tie
+use Rattle.search.specs.Seek.{SeeksTo}
+use Rattle.search.proofs.stretch.Statement.{statement}
+use Rattle.search.proofs.stretch.Tie as tie
 
 abbrev Inv-loop : tie.InvT-loop
 Inv-loop cache t bucket name field₀ opened₀ stop field opened = (opened ≤ stop) × Stands cache bucket field opened × NoneBelow cache name bucket opened

@@ -1,4 +1,4 @@
--- `chains::search` meets its contract. The loop's invariant is `Searching`, and each way out is one
+-- `search::search` meets its contract. The loop's invariant is `Searching`, and each way out is one
 -- of its laws.
 use Prim.Native.Nat.{suc, _+_, _-_, _≤_, _<_}
 use mathlib.Core.Path.{_≡_, ap, _∙_}
@@ -13,13 +13,13 @@ use Rattle.format.specs.Chain.{mostRecords}
 use Rattle.format.specs.Answer.{unfound}
 use Rattle.format.specs.Call.{unnamed}
 use Rattle.tables.specs.Laws.{valid-header, same-field}
 use Rattle.chains.specs.Walk.{Stands}
 use Rattle.chains.specs.declared.Walked.{Walked}
 use Rattle.chains.proofs.Way.{stands-first, stepped-inside, stepped-at}
-use Rattle.chains.proofs.Stretches.{sought-stands, sought-found, sought-last}
-use Rattle.chains.proofs.Searching.{Searching, searching-first, searching-stops, searching-on, searching-steps, searching-lasts}
-use Rattle.chains.proofs.search.Statement.{statement}
-use Rattle.chains.proofs.search.Tie as tie
+use Rattle.search.proofs.Stretches.{sought-stands, sought-found, sought-last}
+use Rattle.search.proofs.Searching.{Searching, searching-first, searching-stops, searching-on, searching-steps, searching-lasts}
+use Rattle.search.proofs.search.Statement.{statement}
+use Rattle.search.proofs.search.Tie as tie
 
 abbrev Inv-loop : tie.InvT-loop
 Inv-loop cache t bucket name most first field₀ opened₀ stop₀ far₀ field opened stop far = Searching cache name bucket field opened stop far

@@ -1,4 +1,4 @@
--- `chains::seek` meets its contract: each way out is a law of what a field leads to, as in
+-- `search::seek` meets its contract: each way out is a law of what a field leads to, as in
 -- `follow`, and a record that bears the name keeps rules 8, 17 and 9 (`bears-home`), so `judge` may
 -- be told.
 use Prim.Native.Nat.{ℕ}
@@ -13,10 +13,10 @@ use Rattle.format.specs.Laws.Records.{bears-home}
 use Rattle.format.specs.Laws.Rules.{record-valid}
 use Rattle.format.specs.Laws.Follow.{follow-end, follow-outside, follow-broken, follow-record}
 use Rattle.format.specs.declared.Next.the-variants.{End, Broken}
-use Rattle.chains.specs.Walk.{seen, Seeks}
-use Rattle.chains.specs.declared.Seen.{Seen}
-use Rattle.chains.proofs.seek.Statement.{statement}
-use Rattle.chains.proofs.seek.Tie as tie
+use Rattle.search.specs.Seek.{seen, Seeks}
+use Rattle.search.specs.declared.Seen.{Seen}
+use Rattle.search.proofs.seek.Statement.{statement}
+use Rattle.search.proofs.seek.Tie as tie
 
 -- the two ways without a record
 module _ (s name : List ℕ) (k f : ℕ) {a : Seen} where
