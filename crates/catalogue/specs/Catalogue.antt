@@ -2,9 +2,8 @@
 use Prim.Native.Nat.{ℕ, _^_, _≤_, _<_}
 use mathlib.Core.Path.{_≡_}
 use mathlib.Core.List.{List, [], _∷_, _++_, map, flatMap}
-use mathlib.Core.Bool.{Bool, true, not, _&&_}
+use mathlib.Core.Bool.{Bool, true}
 use lib.ListN.{length, getD}
-use lib.Dec.{eqb}
 use Rattle.format.specs.Layout.{mostDirectories, mostImages}
 use Rattle.format.specs.Bytes.{bytes}
 use Rattle.format.specs.String.{allowed}

@@ -2,9 +2,7 @@
 use Prim.Native.Nat.{ℕ, suc, _+_, _≤_}
 use mathlib.Core.Path.{_≡_, sym, ap, _∙_}
 use mathlib.Core.List.{List}
-use native.Mathlib.Decide.{decLt}
 use native.Mathlib.Omega.{arith}
-use borrow.Author.Tests.{lt-ltb, le-ltb}
 use Rattle.format.specs.Header.{bucketField}
 use Rattle.format.specs.Chain.{Chain, chained, chainOf, opens}
 use Rattle.format.specs.Words.{link, KeepsBelow}

@@ -11,7 +11,7 @@ ghost use Rattle.format.specs.Part.{inside};
 ghost use Rattle.format.specs.Fault.{fault};
 ghost use Rattle.format.specs.Record.{validIndex};
 ghost use Rattle.catalogue.specs.Fields.{pathEnd, imageEnd, iconEnd, pathCount, iconCountAt};
-ghost use Rattle.catalogue.specs.Judgement.{validPathLength, validPathText, validImageField, validNameLength, validNameText, validImageCount, pathFieldsFault, imageFieldFault, iconFieldsFault, fieldsFault};
+ghost use Rattle.catalogue.specs.Judgement.{validPathLength, validPathText, validImageField, validNameLength, validNameText, pathFieldsFault, imageFieldFault, iconFieldsFault, fieldsFault};
 ghost use Rattle.catalogue.specs.Repeats.{catalogueFault};
 ghost use Rattle.catalogue.specs.Call.{writeIs};
 ghost use Rattle.judging.specs.Judging.{judged, rowJudged, iconsFault, Parted, Listed, repeatFrom};

@@ -1,11 +1,10 @@
 -- `chains::go_round` meets its contract. The loop's invariant: as many steps lead to the field at
 -- hand as records were opened.
 use Prim.Native.Nat.{_+_, _-_, _≤_}
-use mathlib.Core.Path.{_≡_, refl, ap, _∙_}
+use mathlib.Core.Path.{_≡_, ap, _∙_}
 use native.Mathlib.Nat.{sub-self}
 use native.Mathlib.Omega.{arith}
 use borrow.Author.Needs.{needs}
-use denote.Ref.{now}
 use Rattle.rounds.specs.Stepping.{ahead}
 use Rattle.rounds.specs.Laws.{ahead-next}
 use Rattle.chains.specs.Walk.{steppedTo}

@@ -1,5 +1,5 @@
 -- `copying::put_string` meets its contract: a zero byte is put behind the text.
-use Prim.Native.Nat.{_+_, _≤_}
+use Prim.Native.Nat.{_+_}
 use mathlib.Core.Path.{_≡_}
 use mathlib.Core.List.{[], _∷_}
 use native.Mathlib.Omega.{arith}

@@ -11,11 +11,10 @@ use lib.ListN.{length}
 use Rattle.format.specs.Fault.{fault, noFault, unless, _orElse_}
 use Rattle.format.specs.String.{sameBytes, among}
 use Rattle.format.specs.Record.{nameOf}
-use Rattle.format.specs.Header.{buckets, bucketField}
+use Rattle.format.specs.Header.{bucketField}
 use Rattle.format.specs.Number.{be}
 use Rattle.format.specs.Chain.{Chain}
 use Rattle.format.specs.Words.{link, Holds}
-use Rattle.format.specs.declared.Fault.{Fault}
 use Rattle.format.specs.Laws.Names.{among-either}
 use Rattle.format.specs.Laws.Faults.{same-number, orElse-first, orElse-next, orElse-assoc, kept-passes, broken-speaks}
 use Rattle.format.specs.Laws.Along.{links, holds-chain}

@@ -1,5 +1,5 @@
 -- `judging::fields` meets its contract: each `return` is one law of the whole catalogue.
-use Prim.Native.Nat.{_+_, _≤_}
+use Prim.Native.Nat.{_≤_}
 use mathlib.Core.Path.{_≡_, sym, ap, _∙_}
 use native.Mathlib.Omega.{arith}
 use borrow.Author.Needs.{needs}
@@ -9,7 +9,7 @@ use Rattle.format.specs.Fault.{firstFault}
 use Rattle.format.specs.Laws.Faults.{same-number}
 use Rattle.catalogue.specs.Fields.{pathEnd, pathCount, iconCountAt}
 use Rattle.catalogue.specs.Judgement.{pathFieldsFault}
-use Rattle.judging.specs.Judging.{rowJudged, iconsFault, Parted}
+use Rattle.judging.specs.Judging.{rowJudged}
 use Rattle.judging.specs.Laws.Judging.{path-inside, row-inside, judged-end}
 use Rattle.judging.specs.Laws.Sections.{parted-broken, first-count-cut, paths-refused, icons-decide}
 use Rattle.judging.specs.declared.Judged.{Judged}

@@ -1,6 +1,6 @@
 -- `judging::icon_section` meets its contract: each `return` is one law of the icons from their
 -- count on.
-use Prim.Native.Nat.{_+_, _≤_, _<_}
+use Prim.Native.Nat.{_+_, _≤_}
 use mathlib.Core.Path.{_≡_, refl, sym, ap, _∙_}
 use native.Mathlib.Omega.{arith}
 use borrow.Author.Needs.{needs}

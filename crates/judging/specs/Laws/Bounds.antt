@@ -3,7 +3,7 @@
 use Prim.Native.Nat.{ℕ, zero, suc, _+_, _*_, _^_, _≤_, _<_}
 use mathlib.Core.Path.{_≡_, refl}
 use mathlib.Core.List.{List}
-use mathlib.Core.Bool.{true, _&&_, and-eq-true-iff}
+use mathlib.Core.Bool.{_&&_, and-eq-true-iff}
 use native.Mathlib.Nat.{mul-zero, mul-suc}
 use native.Mathlib.Omega.{arith}
 use borrow.Author.Tests.{leb-true}
@@ -11,12 +11,11 @@ use lib.Dec.{ltb}
 use lib.ListN.{length}
 use Rattle.format.specs.Fault.{firstFault}
 use Rattle.format.specs.Part.{inside}
-use Rattle.format.specs.Layout.{imageSize}
 use Rattle.format.specs.declared.Fault.{Fault}
 use Rattle.format.specs.Laws.Faults.{orElse-next, orElse-none, unless-none}
 use Rattle.catalogue.specs.Row.{rowEnd}
-use Rattle.catalogue.specs.Fields.{AreBytes, pathLength, pathEnd, nameLength, imageCountAt, imageCount, firstImageAt, iconEnd, pathCount, iconCountAt, iconCount, firstIconAt, catalogueEnd}
-use Rattle.catalogue.specs.Judgement.{validPathLength, validPathText, validNameLength, validImageCount, pathFieldsFault, iconFieldsFault, fieldsFault}
+use Rattle.catalogue.specs.Fields.{AreBytes, pathLength, pathEnd, nameLength, imageCountAt, imageCount, iconEnd, pathCount, iconCountAt, iconCount, firstIconAt, catalogueEnd}
+use Rattle.catalogue.specs.Judgement.{validPathLength, validNameLength, validImageCount, pathFieldsFault, iconFieldsFault, fieldsFault}
 use Rattle.catalogue.specs.Laws.Spans.{number-fits}
 use Rattle.judging.specs.Judging.{Listed, Parted}
 use Rattle.judging.specs.Laws.Judging.{icon-inside, row-inside}

@@ -1,14 +1,13 @@
 -- How the names of icons in a row are asked for one after the other: what is known before each, and
 -- what each makes of that.
-use Prim.Native.Nat.{ℕ, zero, suc, _+_, _-_, _^_, _≤_, _<_}
+use Prim.Native.Nat.{ℕ, suc, _+_, _-_, _^_, _≤_, _<_}
 use mathlib.Core.Path.{_≡_, refl, sym, ap, _∙_}
 use mathlib.Core.List.{List, [], _∷_}
 use mathlib.Core.Bool.{Bool, true, false, not}
-use native.Mathlib.Nat.{sub-zero, add-zero}
+use native.Mathlib.Nat.{sub-zero}
 use native.Mathlib.Numerals.{add-one}
 use native.Mathlib.Omega.{arith}
 use lib.ListN.{length}
-use Rattle.format.specs.Choice.{if_then_else_}
 use Rattle.format.specs.Fault.{fault, noFault}
 use Rattle.format.specs.String.{among}
 use Rattle.format.specs.Laws.Faults.{broken-speaks, kept-passes}
@@ -17,7 +16,7 @@ use Rattle.names.specs.Index.{Represents, Answered}
 use Rattle.names.specs.Laws.Index.{nothing-met}
 use Rattle.names.specs.declared.Kind.the-variants.{Counted}
 use Rattle.catalogue.specs.Row.{rowEnd, row}
-use Rattle.catalogue.specs.Fields.{nameText, nameTextAt, iconEnd}
+use Rattle.catalogue.specs.Fields.{nameText, iconEnd}
 use Rattle.catalogue.specs.Repeats.{repeatFault}
 use Rattle.catalogue.specs.Laws.Rows.{end-next}
 use Rattle.judging.specs.Judging.{repeatFrom, Listed}

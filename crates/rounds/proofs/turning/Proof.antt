@@ -1,7 +1,6 @@
 -- `rounds::turning` meets its contract: past the lead-in and once round, a field is met again.
-use Prim.Native.Nat.{ℕ, _+_, _≤_, _<_}
+use Prim.Native.Nat.{ℕ, _+_, _≤_}
 use native.Mathlib.Omega.{arith}
-use borrow.Author.Needs.{needs}
 use denote.Ref.{now}
 use Rattle.rounds.specs.Stepping.{ComesBack}
 use Rattle.rounds.specs.Laws.{runs-from}

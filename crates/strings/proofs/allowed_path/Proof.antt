@@ -1,12 +1,10 @@
 -- `strings::allowed_path` meets its contract: an `if` for each part of the definition. A text
 -- within the limit has a first byte, and its segments were read to its end.
-use Prim.Native.Nat.{_<_}
 use mathlib.Core.Path.{_≡_, refl, sym, ap, _∙_}
-use mathlib.Core.Bool.{true, false}
-use native.Mathlib.Omega.{arith}
+use mathlib.Core.Bool.{true}
 use borrow.Author.Needs.{needs}
 use borrow.Author.Tests.{eq-eqb, ne-eqb, not-true, not-false}
-use lib.ListN.{length, take}
+use lib.ListN.{take}
 use lib.Seq.{take-all}
 use denote.Ref.{now}
 use Rattle.format.specs.String.{textWithin}

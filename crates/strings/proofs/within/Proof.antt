@@ -2,7 +2,7 @@
 -- found cut off: no zero byte came, and no more bytes are there. Rests on `judged` and
 -- `string-fits`.
 use Prim.Native.Nat.{ℕ, _<_, _≤_}
-use mathlib.Core.Path.{_≡_, sym, ap, _∙_}
+use mathlib.Core.Path.{_≡_, sym, _∙_}
 use mathlib.Core.Logic.{⊎-elim}
 use mathlib.Core.List.{List}
 use mathlib.Core.Bool.{and-false}

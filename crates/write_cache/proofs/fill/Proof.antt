@@ -1,14 +1,12 @@
 -- `write_cache::fill` meets its contract: the passes put the parts one behind the other (`filled`).
-use Prim.Native.Nat.{ℕ, _+_, _*_, _^_, _≤_, _<_}
+use Prim.Native.Nat.{ℕ, _+_, _*_, _≤_}
 use mathlib.Core.Path.{_≡_, ap}
-use mathlib.Core.List.{List}
 use native.Mathlib.Omega.{arith}
 use borrow.Author.Needs.{needs}
 use lib.ListN.{length}
 use denote.Ref.{now}
 use Rattle.catalogue.specs.Fields.{catalogueIn}
 use Rattle.catalogue.specs.Written.{listsUpTo, pathsUpTo, namesUpTo, writtenSize}
-use Rattle.passes.specs.Passes.{BeginsOf}
 use Rattle.passes.specs.Laws.Counts.{icons-are, paths-are}
 use Rattle.write_cache.specs.Laws.Filled.{ready, filled}
 use Rattle.write_cache.proofs.fill.Statement.{statement}

@@ -1,14 +1,14 @@
 -- What the writer answers and leaves, by what is judged first.
-use Prim.Native.Nat.{ℕ, suc, _+_, _≤_, _<_}
-use mathlib.Core.Path.{_≡_, refl, sym, ap, _∙_}
+use Prim.Native.Nat.{ℕ, _+_, _≤_, _<_}
+use mathlib.Core.Path.{_≡_, sym, _∙_}
 use mathlib.Core.List.{List, _++_}
 use mathlib.Core.Logic.{_⊎_, ⊎-elim}
-use mathlib.Core.Bool.{Bool, true, false, and-false}
+use mathlib.Core.Bool.{true, false, and-false}
 use native.Mathlib.Nat.{zero-add}
 use native.Mathlib.Omega.{arith}
 use borrow.Author.Tests.{lt-ltb, le-leb, lt-leb}
 use lib.ListN.{length, drop}
-use Rattle.format.specs.Fault.{fault, noFault, unless, _orElse_}
+use Rattle.format.specs.Fault.{fault, noFault, _orElse_}
 use Rattle.format.specs.Bytes.{put}
 use Rattle.format.specs.declared.Fault.{Fault}
 use Rattle.format.specs.Laws.Faults.{same-number, broken-takes, orElse-first, orElse-next, orElse-none, broken-speaks, kept-passes, unless-broken}

@@ -1,20 +1,18 @@
 -- The whole cache: its parts are put one behind the other.
-use Prim.Native.Nat.{ℕ, zero, suc, _+_, _*_, _^_, _≤_, _<_}
-use mathlib.Core.Path.{_≡_, refl, sym, ap, _∙_}
+use Prim.Native.Nat.{ℕ, _+_}
+use mathlib.Core.Path.{_≡_, sym, ap, _∙_}
 use mathlib.Core.List.{List, _++_, append-nil, append-assoc}
 use native.Mathlib.Omega.{arith}
 use lib.ListN.{length, length-append}
 use Rattle.format.specs.Layout.{endValue}
 use Rattle.format.specs.Bytes.{bytes, joined, put}
-use Rattle.format.specs.Laws.Bytes.{joined-same}
-use Rattle.format.specs.Laws.Put.{put-length, put-over, put-then}
+use Rattle.format.specs.Laws.Put.{put-over, put-then}
 use Rattle.catalogue.specs.Catalogue.{Catalogue}
-use Rattle.catalogue.specs.Fields.{catalogueIn}
-use Rattle.catalogue.specs.LaidOut.{firstIn, firstOf, headerBytes, tableBytes, directoriesBytes}
-use Rattle.catalogue.specs.Written.{listsUpTo, pathsUpTo, namesUpTo, recordsBegin, listsBegin, directoriesBegin, pathsBegin, namesBegin, places, writtenSize, front, written}
+use Rattle.catalogue.specs.LaidOut.{firstIn, tableBytes}
+use Rattle.catalogue.specs.Written.{listsUpTo, pathsUpTo, namesUpTo, recordsBegin, directoriesBegin, places, front, written}
 use Rattle.catalogue.specs.Laws.Front.{front-length}
 use Rattle.catalogue.specs.Laws.Tables.{table-length}
-use Rattle.passes.specs.Passes.{Judged, BeginsOf}
+use Rattle.passes.specs.Passes.{BeginsOf}
 use Rattle.passes.specs.declared.sizes.Begins.{Begins}
 use Rattle.write_cache.specs.Appending.{Fits, Ready}
 

@@ -1,8 +1,8 @@
 -- The records, one icon after the other: what stands in the buffer and what is remembered after i of
 -- them, and that one icon more leads to the next.
-use Prim.Native.Nat.{ℕ, zero, suc, _+_, _*_, _^_, _%_, _≤_, _<_}
+use Prim.Native.Nat.{ℕ, suc, _+_, _*_, _%_, _≤_, _<_}
 use mathlib.Core.Path.{_≡_, refl, sym, ap, _∙_}
-use mathlib.Core.List.{List, _++_}
+use mathlib.Core.List.{List}
 use native.Mathlib.Nat.{mod-lt}
 use native.Mathlib.Decide.{ℕ-discrete}
 use native.Mathlib.Numerals.{add-one}
@@ -11,7 +11,7 @@ use borrow.Author.Tests.{eq-eqb, ne-eqb}
 use lib.ListN.{length, getD, set, replicate, length-append, length-set, length-replicate, getD-replicate}
 use lib.Seq.{getD-set-same, getD-set-other}
 use Rattle.format.specs.Layout.{endValue}
-use Rattle.format.specs.Bytes.{bytes, joined, put}
+use Rattle.format.specs.Bytes.{joined, put}
 use Rattle.format.specs.String.{hash}
 use Rattle.catalogue.specs.Row.{rowEnd}
 use Rattle.catalogue.specs.Catalogue.{Icon, Catalogue}

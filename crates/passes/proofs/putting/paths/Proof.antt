@@ -1,15 +1,13 @@
 -- `passes::putting::paths` meets its contract. The loop's invariant is `Pass`: the paths that
 -- are passed stand one behind the other.
 use Prim.Native.Nat.{_+_, _-_, _≤_}
-use mathlib.Core.Path.{_≡_, sym, ap, _∙_}
+use mathlib.Core.Path.{_≡_, ap, _∙_}
 use native.Mathlib.Omega.{arith}
-use borrow.Author.Needs.{needs}
 use lib.ListN.{length}
 use denote.Ref.{now}
 use Rattle.format.specs.Bytes.{put}
 use Rattle.catalogue.specs.Fields.{pathLength, pathEnd, catalogueIn}
 use Rattle.catalogue.specs.LaidOut.{nthPath, stringBytes}
-use Rattle.passes.specs.Passes.{Judged}
 use Rattle.catalogue.specs.Laws.Pass.{Pass, pass-first, pass-room, pass-next, pass-done}
 use Rattle.passes.specs.Laws.Paths.{path-ends, path-is, path-size}
 use Rattle.passes.proofs.putting.paths.Statement.{statement}

@@ -7,7 +7,6 @@ use borrow.Author.Needs.{needs}
 use lib.ListN.{length}
 use denote.Ref.{now}
 use Rattle.judging.specs.Laws.Bounds.{catalogue-short}
-use Rattle.passes.specs.Passes.{Judged}
 use Rattle.passes.specs.Laws.Counts.{few-paths, few-icons, size-is}
 use Rattle.passes.proofs.sizes.size.Statement.{statement}
 use Rattle.passes.proofs.sizes.size.Tie as tie

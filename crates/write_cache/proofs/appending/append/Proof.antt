@@ -1,11 +1,11 @@
 -- `write_cache::appending::append` meets its contract: the record is put, and then the
 -- field that leads to it.
-use Prim.Native.Nat.{_+_, _≤_, _<_}
+use Prim.Native.Nat.{_<_}
 use mathlib.Core.Path.{_≡_, ap, _∙_}
 use native.Mathlib.Nat.{mod-lt}
 use native.Mathlib.Omega.{arith}
 use borrow.Author.Needs.{needs}
-use lib.ListN.{length, getD, set}
+use lib.ListN.{getD, set}
 use denote.Ref.{now}
 use Rattle.format.specs.Bytes.{bytes, put}
 use Rattle.format.specs.String.{hash}

@@ -1,13 +1,12 @@
 -- `write_cache::appending::append_all` meets its contract. The loop's invariant is `Reached`,
 -- and a turn is `reached-next`.
-use Prim.Native.Nat.{_+_, _-_, _*_, _≤_}
+use Prim.Native.Nat.{_+_, _-_, _≤_}
 use mathlib.Core.Path.{_≡_, refl, ap, _∙_}
 use native.Mathlib.Omega.{arith}
 use borrow.Author.Needs.{needs}
 use lib.ListN.{length}
 use denote.Ref.{now}
-use Rattle.catalogue.specs.Fields.{iconEnd, catalogueIn}
-use Rattle.catalogue.specs.Laws.Cursor.{IconThere}
+use Rattle.catalogue.specs.Fields.{iconEnd}
 use Rattle.passes.specs.Laws.Icons.{icon-ends, there}
 use Rattle.write_cache.specs.Laws.Records.{Reached, reached-first, Room, room, lead-room, reached-next}
 use Rattle.write_cache.proofs.appending.append_all.Statement.{statement}

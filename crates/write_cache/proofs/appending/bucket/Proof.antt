@@ -3,11 +3,11 @@ use Prim.Native.Nat.{_+_, _-_, _%_}
 use mathlib.Core.Path.{_≡_, ap, _∙_}
 use native.Mathlib.Omega.{arith}
 use borrow.Author.Needs.{needs}
-use lib.ListN.{length, take, drop}
+use lib.ListN.{take, drop}
 use lib.Seq.{take-all}
 use denote.Ref.{now}
 use Rattle.format.specs.String.{string, hash}
-use Rattle.format.specs.Laws.Texts.{TextWithin, allowed-tells}
+use Rattle.format.specs.Laws.Texts.{allowed-tells}
 use Rattle.catalogue.specs.Fields.{nameLength, nameText}
 use Rattle.write_cache.proofs.appending.bucket.Statement.{statement}
 use Rattle.write_cache.proofs.appending.bucket.Tie as tie

@@ -1,5 +1,5 @@
 -- `write_cache::appending::record` meets its contract: three numbers, one behind the other.
-use Prim.Native.Nat.{_+_, _≤_}
+use Prim.Native.Nat.{_+_}
 use mathlib.Core.Path.{_≡_}
 use mathlib.Core.List.{_++_}
 use native.Mathlib.Omega.{arith}
