@@ -6,16 +6,16 @@ use Rattle.format.specs.declared.LookupAnswer.{LookupAnswer}
 use Rattle.format.specs.declared.DirectoryAnswer.{DirectoryAnswer}
 use Rattle.format.specs.declared.DirectoryPart.{DirectoryPart}
 
--- the check's answer; accepted, with d directories and i icons, each opened; refused by rule x at
--- p, after o records
-abbrev pub checked : ℕ → ℕ → ℕ → ℕ → ℕ → CheckAnswer
-checked n p d i o = record { number = n; place = p; directories = d; icons = i; opened = o }
+-- the check's answer; accepted, with d directories and i icons, each opened, and l of them on the
+-- longest chain; refused by rule x at p, after o records
+abbrev pub checked : ℕ → ℕ → ℕ → ℕ → ℕ → ℕ → CheckAnswer
+checked n p d i o l = record { number = n; place = p; directories = d; icons = i; opened = o; longest = l }
 
-abbrev pub accepted : ℕ → ℕ → CheckAnswer
-accepted d i = checked 0 0 d i i
+abbrev pub accepted : ℕ → ℕ → ℕ → CheckAnswer
+accepted d i l = checked 0 0 d i i l
 
 abbrev pub refused : ℕ → ℕ → ℕ → CheckAnswer
-refused x p o = checked x p 0 0 o
+refused x p o = checked x p 0 0 o 0
 
 -- the search for a name: the record r, or rule x at p, after o records
 abbrev pub found : ℕ → ℕ → Found

@@ -10,7 +10,7 @@ use Rattle.format.specs.Fault.{unless, _orElse_, ifKept}
 use Rattle.format.specs.String.{allowed, sameBytes}
 use Rattle.format.specs.Header.{headerFault, tablesFault, pathFault, pathField, pathOf, directories, buckets, bucketField}
 use Rattle.format.specs.Record.{nameOf, bucketOf, imagesAt, images, imageWords}
-use Rattle.format.specs.Chain.{chainOf, mostRecords, openedOn}
+use Rattle.format.specs.Chain.{chainOf, mostRecords, longestChain, openedOn}
 use Rattle.format.specs.Answer.{accepted, refused, found, unfound, lookedUp, directoryIs, partIs}
 use Rattle.format.specs.declared.Fault.{Fault}
 use Rattle.format.specs.declared.Next.{Next}
@@ -23,7 +23,7 @@ use Rattle.format.specs.declared.DirectoryPart.{DirectoryPart}
 
 -- the check of n buckets from bucket k on, with o records opened on the chains before
 unfoldable pub checkBuckets : ℕ → List ℕ → ℕ → ℕ → CheckAnswer
-checkBuckets zero s k o = accepted (directories s) o
+checkBuckets zero s k o = accepted (directories s) o (longestChain s)
 checkBuckets (suc n) s k o =
     let c = chainOf s k (mostRecords s - o) in
     let opened = o + openedOn c in

@@ -1,5 +1,5 @@
--- Demand 3, and the whole answers of the check and of a lookup in its words (document 01,
--- 'Opened').
+-- Demand 3, request 9, and the whole answers of the check and of a lookup in the words of demand 3
+-- (document 01, 'Opened').
 use Prim.Native.Nat.{ℕ, suc, _+_, _-_, _≤_, _<_}
 use mathlib.Core.Path.{_≡_}
 use mathlib.Core.List.{List}
@@ -13,7 +13,7 @@ use Rattle.format.specs.Record.{nameOf, bucketOf}
 use Rattle.format.specs.Chain.{itself}
 use Rattle.format.specs.Answer.{accepted, refused, lookedUp}
 use Rattle.format.specs.Call.{check, queryFault, lookup, foundAnswer}
-use Rattle.format.specs.Words.{link, OnChain, KeepsAt, KeepsBelow, NoneBelow, Holds, Breaks, Turns, TablesKept, Accepted, Loops, Lengths, sum}
+use Rattle.format.specs.Words.{link, OnChain, KeepsAt, KeepsBelow, NoneBelow, Holds, Breaks, Turns, TablesKept, Accepted, Loops, Lengths, sum, greatest}
 use Rattle.format.specs.declared.CheckAnswer.{CheckAnswer}
 use Rattle.format.specs.declared.LookupAnswer.{LookupAnswer}
 
@@ -40,10 +40,21 @@ pub record Demand3 (s : List ℕ) : Type 0 where
   pub few : Accepted s → (len : ℕ → ℕ) → Lengths s (buckets s) len → sum len (buckets s) ≤ length s - 11
   pub looks-up : (name : List ℕ) (room : ℕ) → LookupKept s name (lookup s name room)
 
+-- request 9, of an answer to the check: where it accepts, some chain is as long as it says, and no
+-- lookup opens more records, whatever the name and the room
+pub record LongestDemand (s : List ℕ) (a : CheckAnswer) : Type 0 where
+  pub some : a .number ≡ 0 → (k : ℕ) × (k < buckets s) × Holds s k (a .longest)
+  pub most : a .number ≡ 0 → (name : List ℕ) (room : ℕ) → lookup s name room .opened ≤ a .longest
+  pub refused : (a .number ≡ 0 → ⊥) → a .longest ≡ 0
+
+-- and of an answer to a lookup, beside the check's
+abbrev pub OpensWithin : List ℕ → LookupAnswer → Type 0
+OpensWithin s a = check s .number ≡ 0 → a .opened ≤ check s .longest
+
 -- The check's whole answer in these words: one of the four cases always stands.
 pub record CheckAnswers (s : List ℕ) : Type 0 where
   pub accepts : Accepted s → (len : ℕ → ℕ) → Lengths s (buckets s) len
-      → check s ≡ accepted (directories s) (sum len (buckets s))
+      → check s ≡ accepted (directories s) (sum len (buckets s)) (greatest len (buckets s))
   pub refuses-tables : (x p : ℕ) → tablesFault s ≡ fault (suc x) p → check s ≡ refused (suc x) p 0
   pub refuses-record : (k n x p : ℕ) (len : ℕ → ℕ) → k < buckets s → TablesKept s → Lengths s k len → Breaks s k n x p
       → check s ≡ refused x p (sum len k + n + itself x)

@@ -15,7 +15,7 @@ use Rattle.format.specs.String.{string, extent, isWhole, stringFault, sa
 use Rattle.format.specs.Segments.{segments, firstSegment, laterSegments, validSegment, allValid}
 use Rattle.format.specs.Header.{headerFault, pathFault, tablesFault}
 use Rattle.format.specs.Record.{nameFault, listFault, recordFault, imageWords}
-use Rattle.format.specs.Chain.{linkFault, follow, chain}
+use Rattle.format.specs.Chain.{linkFault, follow, chain, longestBelow}
 use Rattle.format.specs.Answer.{refused}
 use Rattle.format.specs.Call.{check, checkBuckets, firstNamed, searchBucket, queryFault, find, withImages, lookup, foundAnswer, answerWords, directoryFault, directory, directoryPath}
 use Rattle.format.specs.Farm.{farm, looped, sameCheck, sameLookup, sameDirectory, holds, all, cow, oat, pig, lent}
@@ -27,7 +27,7 @@ pub mod Tables
 pub mod Records
 
 examples-hold : T (all tableExamples && all headerExamples && all recordExamples && all loopExamples && all pathExamples)
-unfolding all holds tableExamples headerExamples recordExamples loopExamples pathExamples small none withField header start bare hashLast twoInHeader named pathed undirected recordLast lent looped put farm cow oat pig sameCheck sameLookup sameDirectory check checkBuckets firstNamed searchBucket queryFault find withImages lookup foundAnswer answerWords directoryFault directory directoryPath linkFault follow chain recordFault nameFault listFault imageWords headerFault segments firstSegment laterSegments validSegment allValid pathFault tablesFault _orElse_ firstFault extent string isWhole stringFault sameBytes signed hashFrom hashNumbers hash allowed be
+unfolding all holds tableExamples headerExamples recordExamples loopExamples pathExamples small none withField header start bare hashLast twoInHeader named pathed undirected recordLast lent looped put farm cow oat pig sameCheck sameLookup sameDirectory check checkBuckets firstNamed searchBucket queryFault find withImages lookup foundAnswer answerWords directoryFault directory directoryPath linkFault follow chain longestBelow recordFault nameFault listFault imageWords headerFault segments firstSegment laterSegments validSegment allValid pathFault tablesFault _orElse_ firstFault extent string isWhole stringFault sameBytes signed hashFrom hashNumbers hash allowed be
 examples-hold = tt
 
 -- every buffer of 16,777,217 bytes is refused with 2, and of 16,777,216 with 3 where MAJOR is 2

@@ -11,8 +11,8 @@ use Rattle.format.specs.String.{string, extent, isWhole, stringFault, sa
 use Rattle.format.specs.Segments.{segments, firstSegment, laterSegments, validSegment, allValid}
 use Rattle.format.specs.Header.{headerFault, pathFault, tablesFault}
 use Rattle.format.specs.Record.{nameFault, listFault, recordFault, imageWords}
-use Rattle.format.specs.Chain.{linkFault, follow, chain}
-use Rattle.format.specs.Answer.{accepted, refused, lookedUp, directoryIs}
+use Rattle.format.specs.Chain.{linkFault, follow, chain, longestBelow}
+use Rattle.format.specs.Answer.{checked, accepted, refused, lookedUp, directoryIs}
 use Rattle.format.specs.Call.{check, checkBuckets, firstNamed, searchBucket, queryFault, find, withImages, lookup, foundAnswer, answerWords, lookupWords, directoryFault, directory, directoryPath}
 use Rattle.format.specs.declared.CheckAnswer.{CheckAnswer}
 use Rattle.format.specs.declared.LookupAnswer.{LookupAnswer}
@@ -44,7 +44,7 @@ pub data Example : Type 0 where
 unfoldable pub sameCheck : CheckAnswer → CheckAnswer → Bool
 sameCheck a b =
     eqb (a .number) (b .number) && eqb (a .place) (b .place) && eqb (a .directories) (b .directories) && eqb (a .icons) (b .icons)
-    && eqb (a .opened) (b .opened)
+    && eqb (a .opened) (b .opened) && eqb (a .longest) (b .longest)
 
 unfoldable pub sameLookup : LookupAnswer → LookupAnswer → Bool
 sameLookup a b = eqb (a .number) (b .number) && eqb (a .place) (b .place) && eqb (a .images) (b .images) && eqb (a .opened) (b .opened)
@@ -84,7 +84,7 @@ looped = patched 40 (0 ∷ 0 ∷ 0 ∷ 28 ∷ []) farm
 unfoldable pub examples : List Example
 examples =
     -- P1 to P7
-    checks farm (accepted 2 3) ∷
+    checks farm (accepted 2 3 2) ∷
     looksUp farm cow (lent 5) (lookedUp 0 52 2 1) (1 ∷ 0 ∷ 65540 ∷ 0 ∷ 7 ∷ []) ∷
     looksUp farm oat (lent 5) (lookedUp 0 40 1 2) (1 ∷ 0 ∷ 7 ∷ 7 ∷ 7 ∷ []) ∷
     looksUp farm pig (lent 5) (lookedUp 30 0 0 1) (lent 5) ∷
@@ -92,7 +92,7 @@ examples =
     looksUp farm (97 ∷ []) (lent 5) (lookedUp 30 0 0 0) (lent 5) ∷
     looksUp farm cow (lent 3) (lookedUp 14 76 2 1) (lent 3) ∷
     -- P8
-    checks looped (refused 12 16 116) ∷
+    checks looped (checked 12 16 0 0 116 0) ∷
     looksUp looped oat (lent 5) (lookedUp 0 40 1 2) (1 ∷ 0 ∷ 7 ∷ 7 ∷ 7 ∷ []) ∷
     looksUp looped ewe (lent 5) (lookedUp 12 16 0 116) (lent 5) ∷
     -- P9 to P11
@@ -105,5 +105,5 @@ examples =
     []
 
 examples-hold : T (all examples)
-unfolding all holds examples lent looped put farm cow oat pig ewe sameCheck sameLookup sameDirectory check checkBuckets firstNamed searchBucket queryFault find withImages lookup foundAnswer answerWords directoryFault directory directoryPath linkFault follow chain recordFault nameFault listFault imageWords headerFault segments firstSegment laterSegments validSegment allValid pathFault tablesFault _orElse_ firstFault extent string isWhole stringFault sameBytes signed hashFrom hashNumbers hash allowed be
+unfolding all holds examples lent looped put farm cow oat pig ewe sameCheck sameLookup sameDirectory check checkBuckets firstNamed searchBucket queryFault find withImages lookup foundAnswer answerWords directoryFault directory directoryPath linkFault follow chain longestBelow recordFault nameFault listFault imageWords headerFault segments firstSegment laterSegments validSegment allValid pathFault tablesFault _orElse_ firstFault extent string isWhole stringFault sameBytes signed hashFrom hashNumbers hash allowed be
 examples-hold = tt

@@ -1,5 +1,5 @@
 -- Laws of the definitions: what the proofs of the code rest on, and that the definitions meet
--- demand 3. A reader of the contracts need not read what stands here.
+-- demand 3 and request 9. A reader of the contracts need not read what stands here.
 
 -- of each definition by itself
 pub mod First
@@ -36,3 +36,4 @@ pub mod Lookup
 pub mod LookupAnswers
 pub mod LookupNumbers
 pub mod Demand
+pub mod Longest

@@ -1,6 +1,6 @@
 -- Document 01, 'The words of demand 3': they know nothing of how far a chain is followed; a record
 -- is its offset.
-use Prim.Native.Nat.{ℕ, zero, suc, _+_, _≤_, _<_}
+use Prim.Native.Nat.{ℕ, zero, suc, _+_, _≤_, _<_, max}
 use mathlib.Core.Path.{_≡_}
 use mathlib.Core.List.{List}
 use lib.ListN.{length}
@@ -95,6 +95,11 @@ Lengths s k len = (j : ℕ) → j < k → Holds s j (len j)
 unfoldable pub sum : (ℕ → ℕ) → ℕ → ℕ
 sum len zero = 0
 sum len (suc n) = sum len n + len n
+
+-- the greatest of the first n of them, 0 of none
+unfoldable pub greatest : (ℕ → ℕ) → ℕ → ℕ
+greatest len zero = 0
+greatest len (suc n) = max (greatest len n) (len n)
 
 -- none of the first n records of bucket k's chain bears the name
 abbrev pub NoneBelow : List ℕ → List ℕ → ℕ → ℕ → Type 0

@@ -33,6 +33,8 @@ pub struct CheckAnswer {
     pub directories: usize,
     pub icons: usize,
     pub opened: usize,
+    // How many records the longest chain has; 0 with a refusal.
+    pub longest: usize,
 }
 
 // The record that bears a name, as the place of number 0, or why there is none.

@@ -12,7 +12,7 @@ recordExamples =
     -- a path of one byte
     names (pathed 1) 0 (directoryIs 0 0) (112 ∷ []) ∷
     -- a path of 1,023 bytes
-    checks (pathed 1023) (accepted 1 0) ∷
+    checks (pathed 1023) (accepted 1 0 0) ∷
     -- a path of 1,024 bytes
     checks (pathed 1024) (refused 6 24 0) ∷
     -- 1,023 bytes up to the end, without a zero byte; one more is too long
@@ -25,7 +25,7 @@ recordExamples =
     checks (take 30 (patched 28 (47 ∷ []) (pathed 2))) (refused 17 24 0) ∷
     checks (patched 28 (47 ∷ []) (pathed 1024)) (refused 6 24 0) ∷
     -- a record ending at L
-    checks recordLast (accepted 0 1) ∷
+    checks recordLast (accepted 0 1 1) ∷
     -- a record ending at L + 1
     checks (take 43 recordLast) (refused 7 16 0) ∷
     -- an empty name
@@ -33,7 +33,7 @@ recordExamples =
     -- a name of one byte
     looksUp (named 1) (110 ∷ []) [] (lookedUp 0 24 0 1) [] ∷
     -- a name of 255 bytes
-    checks (named 255) (accepted 0 1) ∷
+    checks (named 255) (accepted 0 1 1) ∷
     looksUp (named 255) (replicate 255 110) [] (lookedUp 0 24 0 1) [] ∷
     -- a name of 256 bytes
     checks (named 256) (refused 8 28 1) ∷
@@ -42,7 +42,7 @@ recordExamples =
     checks (take 296 (named 256)) (refused 8 28 1) ∷
     looksUp (take 295 (named 256)) (110 ∷ []) [] (lookedUp 17 28 0 1) [] ∷
     -- an image list ending at L; without directories the index is 0xFFFF
-    checks undirected (accepted 0 1) ∷
+    checks undirected (accepted 0 1 1) ∷
     looksUp undirected cow (lent 3) (lookedUp 0 24 1 1) (4294901761 ∷ 0 ∷ 7 ∷ []) ∷
     -- an image list ending at L + 1
     checks (take 51 undirected) (refused 10 32 1) ∷
@@ -53,9 +53,9 @@ recordExamples =
     -- index 0xFFFF beside directories
     checks (patched 88 (255 ∷ 255 ∷ []) farm) (refused 11 88 3) ∷
     -- flags 0
-    checks (patched 70 (0 ∷ 0 ∷ []) farm) (accepted 2 3) ∷
+    checks (patched 70 (0 ∷ 0 ∷ []) farm) (accepted 2 3 2) ∷
     -- flags 15
-    checks (patched 70 (0 ∷ 15 ∷ []) farm) (accepted 2 3) ∷
+    checks (patched 70 (0 ∷ 15 ∷ []) farm) (accepted 2 3 2) ∷
     -- flags 16
     checks (patched 70 (0 ∷ 16 ∷ []) farm) (refused 11 68 1) ∷
     -- an IMAGE_DATA_OFFSET of 0xFFFFFFFF: it is handed back and not followed
@@ -91,7 +91,7 @@ pathExamples =
     -- "6/"
     checks (patched 111 (54 ∷ 47 ∷ []) farm) (refused 16 104 0) ∷
     -- ".x"
-    checks (patched 111 (46 ∷ 120 ∷ []) farm) (accepted 2 3) ∷
+    checks (patched 111 (46 ∷ 120 ∷ []) farm) (accepted 2 3 2) ∷
     -- ".." and "/4": 16 comes straight after 6 of the same path, and before the next path
     checks (patched 108 (46 ∷ 46 ∷ 0 ∷ 47 ∷ 52 ∷ []) farm) (refused 16 100 0) ∷
     -- "/." and "..": a leading slash stays 6

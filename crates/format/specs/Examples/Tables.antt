@@ -24,12 +24,12 @@ tableExamples =
     -- b of 0
     checks (withField 12 0 farm) (refused 5 4 0) ∷
     -- b of 1, no directories, and the directory list ending at L
-    checks bare (accepted 0 0) ∷
+    checks bare (accepted 0 0 0) ∷
     names bare 0 (directoryIs 15 0) [] ∷
     -- the directory list ending at L + 1
     checks (take 23 bare) (refused 4 8 0) ∷
     -- the hash ending at L
-    checks hashLast (accepted 0 0) ∷
+    checks hashLast (accepted 0 0 0) ∷
     -- the hash ending at L + 1
     checks (take 23 hashLast) (refused 5 4 0) ∷
     -- an empty name asked for
@@ -48,7 +48,7 @@ tableExamples =
 unfoldable pub headerExamples : List Example
 headerExamples =
     -- a hash and a directory list that begin in the header
-    checks twoInHeader (accepted 0 0) ∷
+    checks twoInHeader (accepted 0 0 0) ∷
     looksUp twoInHeader oat (lent 2) (lookedUp 30 0 0 0) (lent 2) ∷
     -- the same with the last byte cut
     checks (take 19 twoInHeader) (refused 5 4 0) ∷
@@ -58,13 +58,13 @@ headerExamples =
     -- the directory list at 8 has 8 directories, the first with an empty path
     checks (withField 8 8 farm) (refused 6 12 0) ∷
     -- the second path at 11
-    checks (withField 104 11 farm) (accepted 2 3) ∷
+    checks (withField 104 11 farm) (accepted 2 3 2) ∷
     names (withField 104 11 farm) 1 (directoryIs 0 0) (96 ∷ []) ∷
     -- hen's name at 11: its hash is 96 and its bucket 0
-    checks (withField 32 11 farm) (accepted 2 3) ∷
+    checks (withField 32 11 farm) (accepted 2 3 2) ∷
     looksUp (withField 32 11 farm) (96 ∷ []) (lent 3) (lookedUp 0 28 1 1) (1 ∷ 0 ∷ 7 ∷ []) ∷
     -- oat's image list at 2
-    checks (withField 48 2 farm) (accepted 2 3) ∷
+    checks (withField 48 2 farm) (accepted 2 3 2) ∷
     looksUp (withField 48 2 farm) oat (lent 2) (lookedUp 0 40 0 2) (lent 2) ∷
     -- a record at 0: its name would be the hash's count
     checks (withField 16 0 farm) (refused 8 4 1) ∷

@@ -9,13 +9,14 @@ use Rattle.format.specs.Header.{bucketField, buckets, directories, table
 use Rattle.format.specs.Chain.{chainOf, mostRecords, itself, openedOn}
 use Rattle.format.specs.Answer.{accepted, refused}
 use Rattle.format.specs.Call.{check, checkBuckets}
-use Rattle.format.specs.Words.{KeepsAt, KeepsBelow, Holds, Breaks, TablesKept, HeldBefore, Lengths, sum}
+use Rattle.format.specs.Words.{KeepsAt, KeepsBelow, Holds, Breaks, TablesKept, HeldBefore, Lengths, sum, greatest}
 use Rattle.format.specs.declared.Fault.{Fault}
 use Rattle.format.specs.declared.Next.the-variants.{End, Broken, Record}
 use Rattle.format.specs.Laws.Faults.{kept-takes, broken-takes}
 use Rattle.format.specs.Laws.Along.{opened-on, after-is, holds-chain, breaks-chain, keeps-chain}
 use Rattle.format.specs.Laws.Links.{Repeat, once, never-breaks}
 use Rattle.format.specs.Laws.Apart.{Apart, visits, visits-length, apart-none, apart-length, apart-chain, apart-few}
+use Rattle.format.specs.Laws.Order.{longest-length}
 
 -- one bucket of the check, by what comes after the records of its chain; `opened` are opened then
 module _ (s : List ℕ) (n k o : ℕ) {opened : ℕ} (count : o + openedOn (chainOf s k (mostRecords s - o)) ≡ opened) where
@@ -81,9 +82,13 @@ module _ {s : List ℕ} (len : ℕ → ℕ) where
       let c = holds-chain s k l g in
       check-along k (suc m) (omega arith) below ∙ bucket-ends s m k (sum len k) (omega (arith, opened-on s k _ c)) (after-is c)
 
-  pub answers-accepted : TablesKept s → Lengths s (buckets s) len → check s ≡ accepted (directories s) (sum len (buckets s))
+  pub answers-accepted : TablesKept s → Lengths s (buckets s) len
+      → check s ≡ accepted (directories s) (sum len (buckets s)) (greatest len (buckets s))
   unfolding checkBuckets
-  answers-accepted tables-kept h = check-goes-on s tables-kept ∙ check-along (buckets s) 0 {N = buckets s} (omega arith) h
+  answers-accepted tables-kept h =
+      check-goes-on s tables-kept
+      ∙ check-along (buckets s) 0 {N = buckets s} (omega arith) h
+      ∙ ap (accepted (directories s) (sum len (buckets s))) (longest-length len (buckets s) h)
 
   -- the check comes to bucket k
   check-to : {k : ℕ} → k < buckets s → TablesKept s → Lengths s k len → (m : ℕ) × (check s ≡ checkBuckets (suc m) s k (sum len k))

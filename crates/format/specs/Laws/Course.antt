@@ -1,13 +1,17 @@
 -- What a chain can be like that is followed past at most N records: one of three ways, and one is
 -- always at hand.
 use Prim.Native.Nat.{ℕ, zero, suc, _≤_}
+use mathlib.Core.Path.{_≡_}
 use mathlib.Core.List.{List}
 use native.Mathlib.Omega.{arith}
+use lib.ListN.{length}
+use Rattle.format.specs.Chain.{chainOf, openedOn}
 use Rattle.format.specs.Words.{linkField, KeepsBelow, Holds, Breaks}
 use Rattle.format.specs.declared.Next.{Next}
+use Rattle.format.specs.declared.Next.the-variants.{End}
 use Rattle.format.specs.Laws.Below.{below-suc}
 use Rattle.format.specs.Laws.Follow.{Leads, to-end, to-broken, to-record, leads}
-use Rattle.format.specs.Laws.Along.{reads-link}
+use Rattle.format.specs.Laws.Along.{reads-link, counted, opened-on, after-is, holds-chain, breaks-chain, keeps-chain}
 
 pub data Course (s : List ℕ) (k N : ℕ) : Type 0 where
   ends : {n : ℕ} → n ≤ N → Holds s k n → Course s k N
@@ -28,3 +32,12 @@ module _ (s : List ℕ) (k : ℕ) where
     | breaks {n = n} l b ↦ breaks {n = n} (omega arith) b
     | goes-on keeps ↦ one-more (suc N) keeps (leads s k _)
   ]
+
+  -- a chain that ends has as many records where it may be followed further
+  pub ended-length : (n : ℕ) {N : ℕ} → n ≤ N → chainOf s k n .after ≡ End → length (chainOf s k N .records) ≡ openedOn (chainOf s k n)
+  ended-length n {N} few e = go (course n)
+    where
+      go : Course s k n → length (chainOf s k N .records) ≡ openedOn (chainOf s k n)
+      go (ends {n = m} l h) = omega (arith, counted s k m (holds-chain s k {n = m} {N = N} (omega arith) h), opened-on s k m (holds-chain s k l h))
+      go (breaks l b) = let q = after-is (breaks-chain s k l b) in absurd (let z : _≡_ {A = ℕ} 0 1 = cc in omega arith)
+      go (goes-on keeps) = let q = after-is (keeps-chain s k keeps) in absurd (let z : _≡_ {A = ℕ} 0 1 = cc in omega arith)

@@ -12,7 +12,7 @@ use Rattle.format.specs.Header.{buckets, bucketField, directories}
 use Rattle.format.specs.Record.{nameOf, bucketOf}
 use Rattle.format.specs.Answer.{accepted, refused}
 use Rattle.format.specs.Call.{check, lookup}
-use Rattle.format.specs.Words.{NoneBelow, OnChain, Holds, Accepted, Loops, Lengths, sum}
+use Rattle.format.specs.Words.{NoneBelow, OnChain, Holds, Accepted, Loops, Lengths, sum, greatest}
 use Rattle.format.specs.Demand.{CheckDemand, LookupKept, Demand3, CheckAnswers}
 use Rattle.format.specs.declared.CheckAnswer.{CheckAnswer}
 use Rattle.format.specs.Laws.Faults.{same-number}
@@ -34,7 +34,7 @@ opened : {a b : CheckAnswer} → a ≡ b → a .opened ≡ b .opened
 opened e = ap (λ (a : CheckAnswer). a .opened) e
 
 module _ {s : List ℕ} where
-  accepts : Accepted s → (len : ℕ → ℕ) → Lengths s (buckets s) len → check s ≡ accepted (directories s) (sum len (buckets s))
+  accepts : Accepted s → (len : ℕ → ℕ) → Lengths s (buckets s) len → check s ≡ accepted (directories s) (sum len (buckets s)) (greatest len (buckets s))
   accepts acc len h = answers-accepted len (acc .tables-kept) h
 
   loops : {k : ℕ} → Loops s k → check s ≡ refused 12 (bucketField s k) (length s - 10)

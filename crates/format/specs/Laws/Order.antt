@@ -1,4 +1,5 @@
--- The list of all records in the check's order: where each stands in it.
+-- The list of all records in the check's order: where each stands in it; and how long the longest
+-- chain is.
 use Prim.Native.Nat.{ℕ, zero, suc, _+_, _-_, _≤_, _<_}
 use mathlib.Core.Path.{_≡_, refl, ap, _∙_}
 use mathlib.Core.List.{List, [], _∷_}
@@ -6,8 +7,8 @@ use native.Mathlib.Decide.{ℕ-discrete, decLt}
 use native.Mathlib.Omega.{arith}
 use lib.ListN.{length, getD, length-append, List·getD-append}
 use lib.Seq.{getD-at, getD-append-add}
-use Rattle.format.specs.Chain.{Chain, chainOf, mostRecords, recordsBelow}
-use Rattle.format.specs.Words.{link, Holds, Lengths, sum}
+use Rattle.format.specs.Chain.{Chain, chainOf, mostRecords, recordsBelow, longestBelow}
+use Rattle.format.specs.Words.{link, Holds, Lengths, sum, greatest}
 use Rattle.format.specs.Laws.Along.{links, links-length, holds-chain}
 use Rattle.format.specs.Laws.Apart.{holds-few}
 
@@ -38,6 +39,26 @@ module _ (len : ℕ → ℕ) where
     | no c ↦ (k, n - sum len k, omega arith, omega arith, omega arith)
   ]
 
+  -- none of the first n lengths is above the greatest, and one of them is it
+  pub greatest-most : (n : ℕ) {k : ℕ} → k < n → len k ≤ greatest len n
+  unfolding greatest
+  greatest-most zero l = absurd (omega arith)
+  greatest-most (suc n) {k} l = elim (ℕ-discrete k n) [
+    | yes e ↦ rw e (omega arith)
+    | no a ↦ let c : k < n = omega arith in omega (arith, greatest-most n c)
+  ]
+
+  pub greatest-some : (n : ℕ) → 0 < n → (k : ℕ) × (k < n) × (len k ≡ greatest len n)
+  unfolding greatest
+  greatest-some zero some = absurd (omega arith)
+  greatest-some (suc zero) some = (0, some, omega arith)
+  greatest-some (suc (suc n)) some =
+      let (k, l, e) = greatest-some (suc n) (omega arith) in
+      elim (decLt (len k) (len (suc n))) [
+        | yes c ↦ (suc n, omega arith, omega arith)
+        | no c ↦ (k, omega arith, omega arith)
+      ]
+
 module _ {s : List ℕ} (len : ℕ → ℕ) where
   -- the records of a chain that holds
   chain-records : (k : ℕ) → Holds s k (len k) → chainOf s k (mostRecords s) .records ≡ links s k (len k)
@@ -49,6 +70,12 @@ module _ {s : List ℕ} (len : ℕ → ℕ) where
   records-length (suc k) h =
       rw (chain-records k (h k (omega arith)))
       (omega (arith, length-append (recordsBelow s k) (links s k (len k)), records-length k (λ j l. h j (omega arith)), links-length s k (len k)))
+
+  pub longest-length : (k : ℕ) → Lengths s k len → longestBelow s k ≡ greatest len k
+  unfolding longestBelow greatest
+  longest-length zero h = refl
+  longest-length (suc k) h =
+      rw (chain-records k (h k (omega arith)), links-length s k (len k), longest-length k (λ j l. h j (omega arith)))
 
   pub record-at : (k : ℕ) → Lengths s k len → {j m : ℕ} → j < k → m < len j → getD (recordsBelow s k) (sum len j + m) 0 ≡ link s j m
   unfolding recordsBelow
