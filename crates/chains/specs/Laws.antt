@@ -1,12 +1,10 @@
--- What a walk past some records tells of the chain, and how far it goes before it looks ahead.
+-- What a walk past some records tells of the chain.
 use Prim.Native.Nat.{ℕ, suc, _+_, _≤_}
 use mathlib.Core.Path.{_≡_, sym, ap, _∙_}
 use mathlib.Core.List.{List}
 use native.Mathlib.Omega.{arith}
-use Rattle.format.specs.Header.{bucketField}
 use Rattle.format.specs.Chain.{Chain, chained, chainOf, opens}
 use Rattle.format.specs.Words.{link, KeepsBelow}
-use Rattle.format.specs.Laws.Follow.{opens-one, chain-short}
 use Rattle.format.specs.Laws.Along.{links, links-length, holds-chain, breaks-chain, keeps-chain}
 use Rattle.format.specs.Laws.Course.{Course, ends, breaks, goes-on, course}
 use Rattle.format.specs.declared.Next.{Next}
@@ -55,10 +53,3 @@ module _ (s : List ℕ) (k n : ℕ) {a : Walked} (e : a ≡ walked (chainOf s k 
 
   pub walked-broken : {most x p : ℕ} → n ≤ most → a .after ≡ Broken x p → a ≡ walked (chainOf s k most)
   walked-broken few q = same few (λ r d. let z : _≡_ {A = ℕ} 0 1 = cc in omega arith)
-
-  -- no more are opened than may be passed, and one that comes after them
-  pub walked-few : a .opened ≤ n + opens (a .after)
-  walked-few = omega (arith, ap (λ (w : Walked). w .opened) e, ap (λ (w : Walked). opens (w .after)) e, chain-short n s k (bucketField s k))
-
-  pub walked-most : a .opened ≤ n + 1
-  walked-most = omega (arith, walked-few, opens-one (a .after))

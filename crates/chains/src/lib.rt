@@ -87,7 +87,7 @@ fn pass(
 }
 
 // The walk along the chain of `bucket`, past at most `most` records, each judged as often as it is
-// met: so callers pass no more than `further` records by it, and then call `go_on`. The two are
+// met: so callers pass no more than `at_first` records by it, and then call `go_on`. The two are
 // apart so that the judging is inlined into the loop of each.
 pub fn walk(cache: &[u8], t: Tables, bucket: u32, most: usize) -> Walked
     requires { ⌜ TablesOf (now cache) t ⌝ }
@@ -98,23 +98,14 @@ pub fn walk(cache: &[u8], t: Tables, bucket: u32, most: usize) -> Walked
     pass(cache, t, bucket, field, 0, most)
 }
 
-// The nearer of `far` and `most`, both from `opened` on.
-fn nearer(opened: usize, far: usize, most: usize) -> usize
-    requires { ⌜ (opened ≤ far) × (opened ≤ most) ⌝ }
-    ensures { λ r. ⌜ Further opened most r ⌝ }
-{
-    if most < far { most } else { far }
-}
-
 // So many records are passed before it is looked ahead whether a chain comes back.
 const SHORT: usize = 255;
 
-// How far a walk goes after `opened` records before it looks ahead, and no further than `most`.
-pub fn further(opened: usize, most: usize) -> usize
-    requires { ⌜ (opened ≤ most) × (most < 2 ^ 32) ⌝ }
-    ensures { λ r. ⌜ Further opened most r ⌝ }
+// So many, or `most` where that is less.
+pub fn at_first(most: usize) -> usize
+    ensures { λ r. ⌜ r ≤ most ⌝ }
 {
-    nearer(opened, opened + SHORT, most)
+    if most < SHORT { most } else { SHORT }
 }
 
 // So many times as far as it has come a walk looks ahead. A look that sees no end of a chain costs
@@ -126,7 +117,8 @@ pub fn horizon(opened: usize, most: usize) -> usize
     requires { ⌜ (opened ≤ most) × (most < 2 ^ 32) ⌝ }
     ensures { λ r. ⌜ Further opened most r ⌝ }
 {
-    nearer(opened, opened + SIGHT * opened, most)
+    let far = opened + SIGHT * opened;
+    if most < far { most } else { far }
 }
 
 // The rest of a walk that has come back to a record, and so has judged all that it will meet, or

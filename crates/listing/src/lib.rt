@@ -122,7 +122,7 @@ impl Position {
         let n = t.buckets;
         let mut bucket = self.bucket as u32;
         let mut passed = self.count;
-        let mut walked = chains::further(0, passed);
+        let mut walked = chains::at_first(passed);
         while bucket < n {
             let chain = chains::walk(cache, t, bucket, walked);
             let after = chain.after;

@@ -34,12 +34,12 @@ pub record Searching (s name : List ℕ) (k f o stop far : ℕ) : Type 0 where
   pub few : stop ≤ mostRecords s
   pub back : stop < far → Repeat s k (suc stop)
 
-pub searching-first : {s name : List ℕ} {k f stop : ℕ} → Stands s k f 0 → Further 0 (mostRecords s) stop → Searching s name k f 0 stop stop
+pub searching-first : {s name : List ℕ} {k f stop : ℕ} → Stands s k f 0 → stop ≤ mostRecords s → Searching s name k f 0 stop stop
 searching-first w h = record {
   stands = w;
   none = λ m l. absurd (omega arith);
-  passed = h .onward;
-  few = h .few;
+  passed = omega arith;
+  few = h;
   back = λ l. absurd (omega arith);
 }
 

@@ -12,7 +12,7 @@ ghost use Rattle.tables.specs.Tables.{TablesOf};
 ghost use Rattle.chains.specs.Walk.{Stands};
 ghost use Rattle.search.specs.Seek.{seen, Seeks, SeeksTo};
 use bigendian::u32_at;
-use chains::further;
+use chains::at_first;
 use chains::go_round;
 use chains::horizon;
 use chains::opens;
@@ -129,7 +129,7 @@ pub fn search(cache: &[u8], t: Tables, bucket: u32, name: &[u8]) -> Found
     let first = bucket_field(t, bucket);
     let mut field = first;
     let mut opened = 0;
-    let mut stop = further(0, most);
+    let mut stop = at_first(most);
     let mut far = stop;
     loop {
         let sought = stretch(cache, t, bucket, name, field, opened, stop);

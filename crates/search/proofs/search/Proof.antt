@@ -133,8 +133,8 @@ search-spec =
     μ-loop
     (λ c. omega (arith, valid-header (c .before .before .pre .0)))
     (λ c κs. search needs)
-    (λ c κs. omega (arith, valid-header (c .before .before .before .pre .0)))
-    (λ c. searching-first (first (c .before)) (c .further .ensures))
+    (λ c κs. search needs)
+    (λ c. searching-first (first (c .before)) (c .at-first .ensures))
     stretch-requires
     (λ c. search needs)
     (λ c κs. search needs)

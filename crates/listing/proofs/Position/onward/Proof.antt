@@ -40,7 +40,7 @@ loop-holds c =
     let from = c .before .before .before in
     let pre = from .pre in (
       omega (arith, pre, same-buckets (pre .0)),
-      c .further .ensures .few,
+      c .at-first .ensures,
       pre .1 .1,
       λ l. refl,
       rw (same-buckets (pre .0)),
