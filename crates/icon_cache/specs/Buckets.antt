@@ -1,9 +1,9 @@
 -- The check of the buckets, from turn to turn.
-use Prim.Native.Nat.{ℕ, _-_, _≤_}
+use Prim.Native.Nat.{ℕ, _≤_}
 use mathlib.Core.Path.{_≡_}
 use mathlib.Core.List.{List}
 use Rattle.format.specs.Header.{buckets}
-use Rattle.format.specs.Chain.{Chain, mostRecords, openedOn}
+use Rattle.format.specs.Chain.{Chain, mostRecords, longestBelow, openedOn}
 use Rattle.format.specs.Call.{checkBuckets, unnamed}
 use Rattle.format.specs.declared.Found.{Found}
 
@@ -11,9 +11,9 @@ use Rattle.format.specs.declared.Found.{Found}
 abbrev pub unnamedOn : ℕ → Chain → Found
 unnamedOn f c = unnamed f (c .after) (openedOn c)
 
--- n buckets are left from bucket k on, and `left` records until `stop`; the rest of the check is
--- the whole
-pub record Checking (s : List ℕ) (n k stop left : ℕ) : Type 0 where
-  pub passed : left ≤ stop
-  pub few : stop ≤ mostRecords s
-  pub rest : checkBuckets n s k (stop - left) ≡ checkBuckets (buckets s) s 0 0
+-- n buckets are left from bucket k on, o records are opened, and the longest chain so far has
+-- `longest`; the rest of the check is the whole
+pub record Checking (s : List ℕ) (n k o longest : ℕ) : Type 0 where
+  pub few : o ≤ mostRecords s
+  pub longest-is : longest ≡ longestBelow s k
+  pub rest : checkBuckets n s k o ≡ checkBuckets (buckets s) s 0 0

@@ -1,7 +1,7 @@
 // The calls of document 01 over one lent buffer that holds an icon theme cache. Each takes any
 // buffer, any name and any number, and says its whole answer by a definition of the crate `format`.
 ghost use mathlib.Core.Path.{_≡_};
-ghost use Prim.Native.Nat.{_+_, _*_, _≤_, _<_};
+ghost use Prim.Native.Nat.{_+_, _*_, _≤_, _<_, max};
 ghost use lib.ListN.{length};
 ghost use Rattle.format.specs.Header.{buckets, bucketField};
 ghost use Rattle.format.specs.Record.{imagesAt, images};
@@ -11,7 +11,7 @@ ghost use Rattle.format.specs.Answer.{partIs};
 ghost use Rattle.format.specs.Answer as answers;
 ghost use Rattle.format.specs.Call.{checkBuckets, foundAnswer, answerWords, lookupWords, directoryPart, directoryPath};
 ghost use Rattle.format.specs.Call as calls;
-ghost use Rattle.format.specs.Demand.{CheckDemand, LookupKept};
+ghost use Rattle.format.specs.Demand.{CheckDemand, LookupKept, LongestDemand, OpensWithin};
 ghost use Rattle.tables.specs.Tables.{TablesOf};
 ghost use Rattle.icon_cache.specs.Buckets.{unnamedOn};
 use bigendian::u32_at;
@@ -34,6 +34,24 @@ fn refused(number: u32, place: usize, opened: usize) -> CheckAnswer
         directories: 0,
         icons: 0,
         opened,
+        longest: 0,
+    }
+}
+
+fn max(a: usize, b: usize) -> usize
+    ensures { λ r. ⌜ r ≡ max a b ⌝ }
+{
+    if a < b { b } else { a }
+}
+
+// The answer of a search that finds nothing: `number` at `place`, after `opened` records.
+fn unfound(number: u32, place: usize, opened: usize) -> Found
+    ensures { λ r. ⌜ r ≡ answers.unfound number place opened ⌝ }
+{
+    Found {
+        number,
+        place,
+        opened,
     }
 }
 
@@ -52,8 +70,23 @@ fn check_long(cache: &[u8], t: Tables, bucket: u32, passed: usize, most: usize) 
     chains::unnamed(field, after, chain.opened)
 }
 
-// The check of all chains, in a cache that keeps the rules 1 to 6, 16 and 17. It looks ahead on a
-// chain once `stop` records are passed in all; `left` counts down to that.
+// The same of any chain, from its front.
+fn check_chain(cache: &[u8], t: Tables, bucket: u32, most: usize) -> Found
+    requires { ⌜ TablesOf (now cache) t ⌝ }
+    requires { ⌜ (bucket < buckets (now cache)) × (most < length (now cache)) ⌝ }
+    ensures { λ r. ⌜ r ≡ unnamedOn (bucketField (now (cache .entry)) bucket) (chainOf (now (cache .entry)) bucket most) ⌝ }
+{
+    let stop = chains::at_first(most);
+    let chain = chains::walk(cache, t, bucket, stop);
+    let after = chain.after;
+    match after {
+        Next::Record(_) => check_long(cache, t, bucket, stop, most),
+        Next::Broken(number, place) => unfound(number, place, chain.opened),
+        Next::End => unfound(30, 0, chain.opened),
+    }
+}
+
+// The check of all chains, in a cache that keeps the rules 1 to 6, 16 and 17.
 fn check_buckets(cache: &[u8], t: Tables) -> CheckAnswer
     requires { ⌜ TablesOf (now cache) t ⌝ }
     ensures { λ r. ⌜ r ≡ checkBuckets (buckets (now (cache .entry))) (now (cache .entry)) 0 0 ⌝ }
@@ -61,39 +94,24 @@ fn check_buckets(cache: &[u8], t: Tables) -> CheckAnswer
     let n = t.buckets;
     let most = cache.len() - 11;
     let mut bucket = 0;
-    let mut stop = chains::further(0, most);
-    let mut left = stop;
+    let mut opened = 0;
+    let mut longest = 0;
     while bucket < n {
-        let chain = chains::walk(cache, t, bucket, left);
-        let after = chain.after;
-        match after {
-            Next::Broken(number, place) => {
-                return refused(number, place, stop - left + chain.opened);
-            }
-            Next::Record(_) => {
-                let before = stop - left;
-                let long = check_long(cache, t, bucket, left, most - before);
-                let opened = before + long.opened;
-                if long.number != 30 {
-                    return refused(long.number, long.place, opened);
-                }
-                stop = chains::further(opened, most);
-                left = stop - opened;
-                bucket += 1;
-            }
-            Next::End => {
-                left -= chain.opened;
-                bucket += 1;
-            }
+        let chain = check_chain(cache, t, bucket, most - opened);
+        opened += chain.opened;
+        if chain.number != 30 {
+            return refused(chain.number, chain.place, opened);
         }
+        longest = max(longest, chain.opened);
+        bucket += 1;
     }
-    let opened = stop - left;
     CheckAnswer {
         number: 0,
         place: 0,
         directories: t.directories as usize,
         icons: opened,
         opened,
+        longest,
     }
 }
 
@@ -101,6 +119,7 @@ fn check_buckets(cache: &[u8], t: Tables) -> CheckAnswer
 pub fn check(cache: &[u8]) -> CheckAnswer
     ensures answer { λ r. ⌜ r ≡ calls.check (now (cache .entry)) ⌝ }
     ensures demand { λ r. ⌜ CheckDemand (now (cache .entry)) r ⌝ }
+    ensures longest { λ r. ⌜ LongestDemand (now (cache .entry)) r ⌝ }
 {
     let header = tables::header(cache);
     if header.number != 0 {
@@ -114,28 +133,17 @@ pub fn check(cache: &[u8]) -> CheckAnswer
     check_buckets(cache, t)
 }
 
-// The answer of a search that is refused before it opens a record.
-fn unfound(number: u32, place: usize) -> Found
-    ensures { λ r. ⌜ r ≡ answers.unfound number place 0 ⌝ }
-{
-    Found {
-        number,
-        place,
-        opened: 0,
-    }
-}
-
 // The first record that bears `name` on the chain of the name's bucket alone, without its images.
 pub fn find(cache: &[u8], name: &[u8]) -> Found
     ensures { λ r. ⌜ r ≡ calls.find (now (cache .entry)) (now (name .entry)) ⌝ }
 {
     let query = strings::asked(name);
     if !query.allowed {
-        return unfound(13, 0);
+        return unfound(13, 0, 0);
     }
     let header = tables::header(cache);
     if header.number != 0 {
-        return unfound(header.number, header.place);
+        return unfound(header.number, header.place, 0);
     }
     let t = tables::read(cache);
     let bucket = query.hash % t.buckets;
@@ -176,6 +184,7 @@ pub fn lookup(cache: &[u8], name: &[u8], words: &mut [u32]) -> LookupAnswer
     ensures answer { λ r. ⌜ r ≡ calls.lookup (now (cache .entry)) (now (name .entry)) (length (now (words .entry))) ⌝ }
     ensures lent { λ r. ⌜ now (words .exit) ≡ lookupWords (now (cache .entry)) (now (name .entry)) (now (words .entry)) ⌝ }
     ensures demand { λ r. ⌜ LookupKept (now (cache .entry)) (now (name .entry)) r ⌝ }
+    ensures longest { λ r. ⌜ OpensWithin (now (cache .entry)) r ⌝ }
 {
     let found = find(cache, name);
     if found.number != 0 {

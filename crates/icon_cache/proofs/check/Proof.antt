@@ -8,21 +8,22 @@ use borrow.Author.Needs.{needs}
 use denote.Ref.{now}
 use Rattle.format.specs.Header.{headerFault}
 use Rattle.format.specs.Call.{check}
-use Rattle.format.specs.Demand.{CheckDemand}
+use Rattle.format.specs.Demand.{CheckDemand, LongestDemand}
 use Rattle.format.specs.declared.CheckAnswer.{CheckAnswer}
 use Rattle.format.specs.Laws.Faults.{same-number}
 use Rattle.format.specs.Laws.Rules.{tables-header, tables-paths}
 use Rattle.format.specs.Laws.Buckets.{check-goes-on, check-refuses}
 use Rattle.format.specs.Laws.Demand.{check-demand}
+use Rattle.format.specs.Laws.Longest.{longest-demand}
 use Rattle.icon_cache.proofs.check.Statement.{statement}
 use Rattle.icon_cache.proofs.check.Tie as tie
 
 header-kept : (c : tie.Else1) → headerFault (now (c .before .before .before .before .args .cache)) .number ≡ 0
 header-kept c = rw (c .before .before .header .ensures) at (c .if1 .left)
 
--- what equals the definition's answer meets demand 3
-meets : (s : List ℕ) {a : CheckAnswer} → a ≡ check s → (a ≡ check s) × CheckDemand s a
-meets s e = (e, rw e (check-demand s))
+-- what equals the definition's answer meets demand 3 and request 9
+meets : (s : List ℕ) {a : CheckAnswer} → a ≡ check s → (a ≡ check s) × (CheckDemand s a × LongestDemand s a)
+meets s e = (e, (rw e (check-demand s), rw e (longest-demand s)))
 
 returns : tie.Need-returns
 returns c =

@@ -6,19 +6,26 @@ use mathlib.Core.List.{List}
 use borrow.Author.Needs.{needs}
 use lib.ListN.{length}
 use Rattle.format.specs.Call.{lookup, answerWords, lookupWords}
-use Rattle.format.specs.Demand.{LookupKept}
+use Rattle.format.specs.Demand.{LookupKept, OpensWithin}
 use Rattle.format.specs.Laws.Links.{keeps-listed}
 use Rattle.format.specs.Laws.Lookup.{lookup-found, lookup-unfound, answer-keeps}
 use Rattle.format.specs.Laws.LookupAnswers.{found-keeps}
 use Rattle.format.specs.Laws.Demand.{lookup-demand}
+use Rattle.format.specs.Laws.Longest.{longest-demand}
 use Rattle.format.specs.declared.LookupAnswer.{LookupAnswer}
 use Rattle.icon_cache.proofs.lookup.Statement.{statement}
 use Rattle.icon_cache.proofs.lookup.Tie as tie
 
--- what equals the definition's answer meets demand 3
+-- what equals the definition's answer meets demand 3 and request 9
 meets : (s name words after : List ℕ) {a : LookupAnswer} → a ≡ lookup s name (length words) → after ≡ answerWords s words a
-    → (a ≡ lookup s name (length words)) × ((after ≡ lookupWords s name words) × LookupKept s name a)
-meets s name words after e lent = (e, (lent ∙ ap (answerWords s words) e, rw e (lookup-demand s name (length words))))
+    → (a ≡ lookup s name (length words)) × ((after ≡ lookupWords s name words) × (LookupKept s name a × OpensWithin s a))
+meets s name words after e lent = (
+  e,
+  (
+    lent ∙ ap (answerWords s words) e,
+    (rw e (lookup-demand s name (length words)), λ accepted. rw e (longest-demand s .most accepted name (length words))),
+  ),
+)
 
 returns : tie.Need-returns
 returns c =
