@@ -15,7 +15,7 @@ use Rattle.format.specs.String.{string, extent, isWhole, stringFault, sameBytes
 use Rattle.format.specs.Segments.{segments, firstSegment, laterSegments, validSegment, allValid, allowedPath}
 use Rattle.format.specs.Header.{headerFault, pathFault, tablesFault}
 use Rattle.format.specs.Record.{nameFault, listFault, recordFault}
-use Rattle.format.specs.Chain.{linkFault, follow, chain, recordsBelow, allRecords}
+use Rattle.format.specs.Chain.{linkFault, follow, chain, longestBelow, recordsBelow, allRecords}
 use Rattle.format.specs.Answer.{accepted}
 use Rattle.format.specs.Call.{check, checkBuckets}
 use Rattle.format.specs.Farm.{farm, cow, oat, lent}
@@ -70,7 +70,7 @@ listExamples =
     []
 
 examples-hold : T (all judgedExamples && all writeExamples && all listExamples)
-unfolding all judgedExamples writeExamples listExamples judgedGood refused18 writeRefuses listRefuses writes lists sameAnswer lent hen farmCatalogue farmBytes farmWritten pairBytes pairWritten pathOfBytes farm put cow oat flatMap bytes joined allowedPath rowEnd row pathFieldsFault iconFieldsFault fieldsFault among repeatFault catalogueFault firstIn written has rising firsts listed recordUses writeFault listingFault write writeLeaves catalogueOf catalogueLeaves recordsBelow linkFault follow chain check checkBuckets recordFault nameFault listFault headerFault firstFault segments firstSegment laterSegments validSegment allValid pathFault tablesFault _orElse_ extent string isWhole stringFault sameBytes signed hashFrom hashNumbers hash allowed be
+unfolding all judgedExamples writeExamples listExamples judgedGood refused18 writeRefuses listRefuses writes lists sameAnswer lent hen farmCatalogue farmBytes farmWritten pairBytes pairWritten pathOfBytes farm put cow oat flatMap bytes joined allowedPath rowEnd row pathFieldsFault iconFieldsFault fieldsFault among repeatFault catalogueFault firstIn written has rising firsts listed recordUses writeFault listingFault write writeLeaves catalogueOf catalogueLeaves recordsBelow linkFault follow chain longestBelow check checkBuckets recordFault nameFault listFault headerFault firstFault segments firstSegment laterSegments validSegment allValid pathFault tablesFault _orElse_ extent string isWhole stringFault sameBytes signed hashFrom hashNumbers hash allowed be
 examples-hold = tt
 
 -- with room enough, a cache of 16,777,216 bytes is written, and one of 16,777,217 is refused
@@ -83,14 +83,14 @@ unfolding write writeFault _orElse_
 too-large c good e = simp (good, e)
 
 -- with room enough, 65,535 icons are listed, and one more is refused
-module _ (s : List ℕ) (m n : ℕ) (e : check s ≡ accepted m n) (apart : repeatFault [] (recordUses s) ≡ noFault) where
-  abbrev l : ℕ
-  l = length (listedBytes s)
+module _ (s : List ℕ) (m n l : ℕ) (e : check s ≡ accepted m n l) (apart : repeatFault [] (recordUses s) ≡ noFault) where
+  abbrev room : ℕ
+  room = length (listedBytes s)
 
-  most-icons : length (allRecords s) ≡ 65535 → catalogueOf s l ≡ writeIs 0 0 l
+  most-icons : length (allRecords s) ≡ 65535 → catalogueOf s room ≡ writeIs 0 0 room
   unfolding catalogueOf listingFault _orElse_
-  most-icons count = simp (e, apart, count, le-leb l l (le-refl l))
+  most-icons count = simp (e, apart, count, le-leb room room (le-refl room))
 
-  too-many : length (allRecords s) ≡ 65536 → catalogueOf s l ≡ writeIs 21 0 0
+  too-many : length (allRecords s) ≡ 65536 → catalogueOf s room ≡ writeIs 21 0 0
   unfolding catalogueOf listingFault _orElse_
   too-many count = simp (e, apart, count)

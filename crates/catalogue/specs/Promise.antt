@@ -37,7 +37,7 @@ pub record BytesPromise : Type 0 where
 
 -- of any layout
 abbrev pub LayoutPromise : Type 0
-LayoutPromise = (s : List ℕ) (d : Catalogue) (b : ℕ) (q : Places) → Good d → 0 < b → Lays s d b q → Serves s d q
+LayoutPromise = (s : List ℕ) (d : Catalogue) (b : ℕ) (q : Places) → Good d → 0 < b → Lays s d b q → Serves s d b q
 
 -- of a call that is refused: it writes nothing
 abbrev pub Refuses : WriteAnswer → List ℕ → List ℕ → Type 0
@@ -47,7 +47,7 @@ Refuses a lent after = (a .number ≡ 0 → ⊥) → (a .length ≡ 0) × (after
 pub record Writes (c : List ℕ) (b : ℕ) (lent : List ℕ) : Type 0 where
   pub answer : write c b (length lent) ≡ writeIs 0 0 (length (writtenBytes c b))
   pub leaves : writeLeaves c b lent ≡ writtenBytes c b ++ drop (length (writtenBytes c b)) lent
-  pub serves : Serves (writtenBytes c b) (catalogueIn c) (places (catalogueIn c) b)
+  pub serves : Serves (writtenBytes c b) (catalogueIn c) b (places (catalogueIn c) b)
   pub back : (room : ℕ) → length c ≤ room → catalogueOf (writtenBytes c b) room ≡ writeIs 0 0 (length c)
   pub back-leaves : (other : List ℕ) → length c ≤ length other → catalogueLeaves (writtenBytes c b) other ≡ c ++ drop (length c) other
 

@@ -43,13 +43,6 @@ pub record Parted (c : List ℕ) (v : Fault) (n p : ℕ) (a : Parts) : Type 0 wh
 abbrev pub repeatFrom : List (List ℕ) → List ℕ → ℕ → ℕ → Fault
 repeatFrom before c m p = repeatFault before (row (iconUse c) (iconEnd c) m p)
 
--- the most bytes of an icon and of a path in a catalogue
-abbrev pub longestIcon : ℕ
-longestIcon = 8450
-
-abbrev pub longestPathField : ℕ
-longestPathField = 1025
-
 -- m icons from p on that keep the rules, and whose offsets a word can hold
 pub record Listed (c : List ℕ) (m p : ℕ) : Type 0 where
   pub inside : (i : ℕ) → i < m → rowEnd (iconEnd c) (suc i) p ≤ length c

@@ -8,20 +8,14 @@ use native.Mathlib.Decide.{ℕ-discrete}
 use native.Mathlib.Omega.{arith}
 use borrow.Author.Tests.{eq-eqb, ne-eqb}
 use lib.ListN.{length}
-use lib.Dec.{eqb}
-use Rattle.format.specs.Choice.{if_then_else_}
 use Rattle.format.specs.Number.{be}
 use Rattle.format.specs.Words.{link, KeepsBelow, Holds}
 use Rattle.format.specs.Laws.Below.{below-suc}
 use Rattle.catalogue.specs.Catalogue.{Catalogue, Good}
 use Rattle.catalogue.specs.LaidOut.{iconBucket, firstIn, Places, Lays}
+use Rattle.catalogue.specs.Serves.{countIn}
 use Rattle.catalogue.specs.Laws.Laid.{Laid, laid}
 use Rattle.catalogue.specs.Laws.Kept.{record-keeps}
-
--- how many of m icons from icon i on are of bucket k
-unfoldable pub countIn : (ℕ → ℕ) → ℕ → ℕ → ℕ → ℕ
-countIn bucket k i zero = 0
-countIn bucket k i (suc m) = (if eqb (bucket i) k then 1 else 0) + countIn bucket k (suc i) m
 
 -- the record at step m of bucket k's chain is that of icon i, which is of bucket k
 pub record IconAtStep (s : List ℕ) (d : Catalogue) (b : ℕ) (q : Places) (k m i : ℕ) : Type 0 where

@@ -11,7 +11,7 @@ use Rattle.format.specs.Header.{buckets}
 use Rattle.format.specs.Record.{nameOf, bucketOf, imagesAt, images, imageWords}
 use Rattle.format.specs.Answer.{lookedUp, accepted}
 use Rattle.format.specs.Call.{check, lookup, foundAnswer, answerWords}
-use Rattle.format.specs.Words.{link, NoneBelow, Accepted, Lengths, sum}
+use Rattle.format.specs.Words.{link, NoneBelow, Accepted, Lengths, sum, greatest}
 use Rattle.format.specs.Laws.Faults.{same-number}
 use Rattle.format.specs.Laws.Rules.{tables-keep-header}
 use Rattle.format.specs.Laws.Links.{on-chain, one-step}
@@ -20,11 +20,11 @@ use Rattle.format.specs.Laws.LookupAnswers.{lookup-answers}
 use Rattle.format.specs.Laws.Demand.{demand3, check-answers}
 use Rattle.catalogue.specs.Catalogue.{Icon, Catalogue, Good, NoneTwice, names, iconIs}
 use Rattle.catalogue.specs.LaidOut.{nthIcon, iconBucket, Places, Lays}
-use Rattle.catalogue.specs.Serves.{wordsOf, GivesIcon, Serves}
+use Rattle.catalogue.specs.Serves.{wordsOf, GivesIcon, countIn, fullest, Serves}
 use Rattle.catalogue.specs.Laws.Laid.{laid}
 use Rattle.catalogue.specs.Laws.Images.{words-of-images}
 use Rattle.catalogue.specs.Laws.Kept.{icon-good, tables-kept, name-stands, list-stands, count-stands, images-stand}
-use Rattle.catalogue.specs.Laws.Chains.{countIn, IconAtStep, ChainOf, chain-of}
+use Rattle.catalogue.specs.Laws.Chains.{IconAtStep, ChainOf, chain-of}
 use Rattle.catalogue.specs.Laws.Counts.{counted-once}
 
 -- icons with one name are one icon
@@ -62,8 +62,10 @@ module _ {s : List ℕ} {d : Catalogue} {b : ℕ} {q : Places} (good : Good d) (
   all-counted =
       rw buckets-are (counted-once (iconBucket d b) b (λ i. mod-lt (hash (nthIcon d i .name)) some) 0 (length (d .icons)))
 
-  check-counts : check s ≡ accepted (length (d .paths)) (length (d .icons))
-  check-counts = check-answers s .accepts lays-accepted counts counts-are ∙ rw (laid good lays .directories-are, all-counted)
+  check-counts : check s ≡ accepted (length (d .paths)) (length (d .icons)) (fullest d b)
+  check-counts =
+      check-answers s .accepts lays-accepted counts counts-are
+      ∙ rw (laid good lays .directories-are, all-counted) (ap (λ n. accepted (length (d .paths)) (length (d .icons)) (greatest counts n)) buckets-are)
 
   -- the record at a step bears its icon's name
   step-name : {k m i : ℕ} → IconAtStep s d b q k m i → nameOf s (link s k m) ≡ nthIcon d i .name
@@ -128,5 +130,5 @@ module _ {s : List ℕ} {d : Catalogue} {b : ℕ} {q : Places} (good : Good d) (
       let (i, h) = w .icon-at n (on-chain (w .holds) on .0) in
       none i (h .below) (sym (step-name h) ∙ ap (nameOf s) (on .named) ∙ e))
 
-  pub serves : Serves s d q
+  pub serves : Serves s d b q
   serves = record { accepts = check-counts; gives = found; absent = absent }

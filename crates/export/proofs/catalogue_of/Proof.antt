@@ -20,7 +20,7 @@ returns c =
     (c .refusal .ensures ∙ told .0, told .1)
 
 accepted : (c : tie.Else1) → Accepted (now (c .before .before .before .before .before .args .cache))
-accepted c = c .before .before .check .ensures .1 .accepted .0 (c .if1 .left)
+accepted c = c .before .before .check .ensures .1 .0 .accepted .0 (c .if1 .left)
 
 list-requires : tie.Need-list-requires
 list-requires c κs =
