@@ -1,2 +1,2 @@
-# accepted 3 icons 2 directories
+# accepted 3 icons 2 directories longest 2
 cat tests/caches/accented.cache

@@ -30,6 +30,7 @@ pub fn check(case: &[u8], cache: &[u8]) {
     count(b", directories ", answer.directories);
     count(b", icons ", answer.icons);
     count(b", opened ", answer.opened);
+    count(b", longest ", answer.longest);
     end();
 }
 

@@ -11,7 +11,7 @@ use Rattle.check_cache.specs.declared.Line.the-variants.{Accepted, Refus
 
 -- the line for an answer of the check: number 0 is the accepted cache's
 abbrev pub lineOf : CheckAnswer → Line
-lineOf a = if eqb (a .number) 0 then Accepted (a .icons) (a .directories) else Refused (a .number) (a .place) (a .opened)
+lineOf a = if eqb (a .number) 0 then Accepted (a .icons) (a .directories) (a .longest) else Refused (a .number) (a .place) (a .opened)
 
 -- the line for what was read: a cache of more than 65,536 bytes is not judged
 abbrev pub lineFor : List ℕ → Line

@@ -13,6 +13,7 @@ pub enum Line {
     Accepted {
         icons: usize,
         directories: usize,
+        longest: usize,
     },
     Refused {
         number: u32,
@@ -30,6 +31,7 @@ fn line_of(answer: CheckAnswer) -> Line
         Line::Accepted {
             icons: answer.icons,
             directories: answer.directories,
+            longest: answer.longest,
         }
     } else {
         Line::Refused {
@@ -58,10 +60,15 @@ fn print_count(before: &[u8], count: usize) {
 
 fn print(line: Line) {
     match line {
-        Line::Accepted { icons, directories } => {
+        Line::Accepted {
+            icons,
+            directories,
+            longest,
+        } => {
             print_count(b"accepted ", icons);
             print_count(b" icons ", directories);
-            io::write_all(STDOUT_FILENO, b" directories\n");
+            print_count(b" directories longest ", longest);
+            io::write_all(STDOUT_FILENO, b"\n");
         }
         Line::Refused {
             number,
