@@ -43,13 +43,15 @@ static int read_cache(const char *path)
 
 static int check(void)
 {
-    size_t place, directories, icons, opened;
-    uint32_t number = icon_cache_check(cache, cache_len, &place, &directories, &icons, &opened);
+    size_t place, directories, icons, opened, longest;
+    uint32_t number = icon_cache_check(cache, cache_len, &place, &directories, &icons,
+                                       &opened, &longest);
     if (number != 0) {
         printf("check: refused, %u at %zu, %zu opened\n", (unsigned)number, place, opened);
         return 1;
     }
-    printf("check: accepted, %zu icons, %zu directories, %zu opened\n", icons, directories, opened);
+    printf("check: accepted, %zu icons, %zu directories, longest chain %zu, %zu opened\n",
+           icons, directories, longest, opened);
     return 0;
 }
 

@@ -79,7 +79,11 @@ extern "C" {
 #endif
 
 /*
- * Checks the whole cache. With any number but 0, *directories and *icons are 0.
+ * Checks the whole cache. With any number but 0, *directories, *icons and
+ * *longest are 0. *longest is how many records the longest of the buckets'
+ * chains has: no lookup in this cache opens more, whatever the name and the
+ * room. It is 0 where there are no icons.
+ *
  * *opened is the number of icon records that were looked at: with 17 it is 0 if
  * a path runs off the end, and more if a name does. A cache of 16 MiB that was
  * made to cost time can take some seconds, one of 256 KiB some hundredths of a
@@ -88,7 +92,8 @@ extern "C" {
  * that: each of its records is judged once.
  */
 uint32_t icon_cache_check(const uint8_t *cache, size_t cache_len,
-                          size_t *place, size_t *directories, size_t *icons, size_t *opened);
+                          size_t *place, size_t *directories, size_t *icons,
+                          size_t *opened, size_t *longest);
 
 /*
  * Looks for the icon `name`. With 0, two words for each of the *images images

@@ -19,14 +19,16 @@ pub extern "C" fn icon_cache_check(
     directories: &mut usize,
     icons: &mut usize,
     opened: &mut usize,
+    longest: &mut usize,
 ) -> u32
-    ensures { λ r. ⌜ checked r (now (place .exit)) (now (directories .exit)) (now (icons .exit)) (now (opened .exit)) ≡ check (now (cache .entry)) ⌝ }
+    ensures { λ r. ⌜ checked r (now (place .exit)) (now (directories .exit)) (now (icons .exit)) (now (opened .exit)) (now (longest .exit)) ≡ check (now (cache .entry)) ⌝ }
 {
     let answer = icon_cache::check(cache);
     *place = answer.place;
     *directories = answer.directories;
     *icons = answer.icons;
     *opened = answer.opened;
+    *longest = answer.longest;
     answer.number
 }
 
