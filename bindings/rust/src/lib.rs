@@ -67,6 +67,9 @@ pub struct Checked {
     pub icons: usize,
     /// How many icon records the check opened.
     pub opened: usize,
+    /// How many records the longest of the buckets' chains has. No [`lookup`] in this
+    /// cache opens more; 0 if there are no icons.
+    pub longest: usize,
 }
 
 /// One image of an icon.
@@ -117,6 +120,8 @@ pub struct Found {
 ///
 /// let checked = check(FARM_CACHE).unwrap();
 /// assert_eq!((checked.directories, checked.icons), (2, 3));
+/// // "hen" and "oat" share a bucket, so a lookup opens two records at most.
+/// assert_eq!(checked.longest, 2);
 ///
 /// // Let the chain of the first bucket run in a circle.
 /// let mut cache = FARM_CACHE.to_vec();
@@ -133,6 +138,7 @@ pub fn check(cache: &[u8]) -> Result<Checked, Refusal> {
             directories: answer.directories,
             icons: answer.icons,
             opened: answer.opened,
+            longest: answer.longest,
         }),
         number => Err(Refusal {
             number,

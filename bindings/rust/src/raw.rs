@@ -15,6 +15,8 @@ pub struct Check {
     pub icons: usize,
     /// How many records the walk opened.
     pub opened: usize,
+    /// How many records the longest chain has, 0 with a refusal.
+    pub longest: usize,
 }
 
 /// The answer of [`lookup`].
@@ -126,6 +128,7 @@ mod c {
             directories: *mut usize,
             icons: *mut usize,
             opened: *mut usize,
+            longest: *mut usize,
         ) -> u32;
 
         pub fn icon_cache_lookup(
@@ -236,8 +239,9 @@ pub fn check(cache: &[u8]) -> Check {
     let mut directories = UNWRITTEN;
     let mut icons = UNWRITTEN;
     let mut opened = UNWRITTEN;
+    let mut longest = UNWRITTEN;
     // SAFETY: the pointers are valid for the lengths given and for this call,
-    // and only the four numbers are written.
+    // and only the five numbers are written.
     let number = unsafe {
         c::icon_cache_check(
             address(cache),
@@ -246,6 +250,7 @@ pub fn check(cache: &[u8]) -> Check {
             &mut directories,
             &mut icons,
             &mut opened,
+            &mut longest,
         )
     };
     Check {
@@ -254,6 +259,7 @@ pub fn check(cache: &[u8]) -> Check {
         directories,
         icons,
         opened,
+        longest,
     }
 }
 

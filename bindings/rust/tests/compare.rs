@@ -243,6 +243,7 @@ impl<'a> Comparison<'a> {
         };
         self.counts.check.note(cache.check.number);
         self.note_check(&cache);
+        cache.demand_longest()?;
         for (i, name) in self.queries(lent).iter().enumerate() {
             self.ask_lookup(&cache, name, i == 0)?;
             // The first name is mostly there. A case with its own positions has few names.
@@ -368,6 +369,8 @@ impl<'a> Comparison<'a> {
     fn ask_lookup(&mut self, cache: &Asked, name: &[u8], thorough: bool) -> Result<(), Difference> {
         let (answer, _) = cache.pair.lookup(name, 0)?;
         self.counts.lookup.note(answer.number);
+        cache.demand_within(&answer)?;
+        self.note_longest(cache, &answer);
         if matches!(answer.number, 0 | 14) && answer.opened > AHEAD {
             let on_last = cache.ends_round(name, answer.opened);
             self.counts.meetings.note(Met::FoundOnLongRound, on_last);
@@ -379,9 +382,19 @@ impl<'a> Comparison<'a> {
             if thorough || i == chosen {
                 let (answer, _) = cache.pair.lookup(name, room)?;
                 self.counts.lookup.note(answer.number);
+                cache.demand_within(&answer)?;
             }
         }
         Ok(())
+    }
+
+    /// Only a chain of several records tells the longest from any other.
+    fn note_longest(&mut self, cache: &Asked, answer: &reader::Lookup) {
+        let longest = cache.check.longest;
+        let met = longest > 1 && answer.opened == longest;
+        let meetings = &mut self.counts.meetings;
+        meetings.note(Met::LongestMissed, met && answer.number == 30);
+        meetings.note(Met::LongestFound, met && matches!(answer.number, 0 | 14));
     }
 
     fn ask_pick(&mut self, cache: &Asked, name: &[u8]) -> Result<(), Difference> {
@@ -467,6 +480,37 @@ struct Asked<'a> {
 }
 
 impl Asked<'_> {
+    /// The check says how long the longest chain is, and 0 with a refusal.
+    fn demand_longest(&self) -> Result<(), Difference> {
+        let reader::Check {
+            number, longest, ..
+        } = self.check;
+        let wanted = match number {
+            0 => self.chains.iter().max().copied(),
+            _ => Some(0),
+        };
+        if wanted == Some(longest) {
+            return Ok(());
+        }
+        Err(Difference {
+            call: "the longest chain".into(),
+            library: format!("{longest}"),
+            reader: format!("{wanted:?} by all chains"),
+        })
+    }
+
+    /// No lookup in an accepted cache opens more records than the longest chain has.
+    fn demand_within(&self, answer: &reader::Lookup) -> Result<(), Difference> {
+        if self.check.number != 0 || answer.opened <= self.check.longest {
+            return Ok(());
+        }
+        Err(Difference {
+            call: "lookup in an accepted cache".into(),
+            library: format!("{answer:?}"),
+            reader: format!("the longest chain has {} records", self.check.longest),
+        })
+    }
+
     /// Of a cache refused with 12: the lengths of the chains before the one that
     /// never ends, and its own.
     fn before_round(&self) -> (&[usize], usize) {
@@ -570,12 +614,14 @@ fn demand_each_once(records: &[usize], number: u32, icons: usize) -> Result<(), 
 /// The maker keeps its word: the reader finds all that was put in.
 fn demand_sound(sound: &Sound) {
     let icons = sound.names.len();
+    let lengths = sound.chains.iter().map(Vec::len);
     let expected = reader::Check {
         number: 0,
         place: 0,
         directories: sound.directories,
         icons,
         opened: icons,
+        longest: lengths.max().expect("there is a bucket"),
     };
     assert_eq!(
         reader::check(&sound.bytes),

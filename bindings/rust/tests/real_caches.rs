@@ -13,25 +13,26 @@ use std::collections::{HashMap, HashSet};
 
 #[test]
 fn hicolor() {
-    walk(include_bytes!("data/hicolor.cache"), 2, 5);
+    walk(include_bytes!("data/hicolor.cache"), 2, 5, 1);
 }
 
 #[test]
 fn tango() {
-    walk(include_bytes!("data/Tango.cache"), 849, 48);
+    walk(include_bytes!("data/Tango.cache"), 849, 48, 8);
 }
 
 /// Made by gtk-update-icon-cache of a file with each suffix.
 #[test]
 fn suffixes() {
-    walk(include_bytes!("data/suffixes.cache"), 5, 2);
+    walk(include_bytes!("data/suffixes.cache"), 5, 2, 1);
 }
 
-fn walk(cache: &[u8], icons: usize, directories: usize) {
+fn walk(cache: &[u8], icons: usize, directories: usize, longest: usize) {
     let expected = Checked {
         directories,
         icons,
         opened: icons,
+        longest,
     };
     assert_eq!(check(cache), Ok(expected));
     let pair = Pair::new(cache);

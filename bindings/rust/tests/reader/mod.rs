@@ -23,6 +23,7 @@ pub struct Check {
     pub directories: usize,
     pub icons: usize,
     pub opened: usize,
+    pub longest: usize,
 }
 
 #[derive(Clone, Copy, Debug, PartialEq, Eq)]
@@ -294,6 +295,7 @@ pub fn check(cache: &[u8]) -> Check {
         directories: 0,
         icons: 0,
         opened,
+        longest: 0,
     };
     let tables = match tables(cache) {
         Ok(tables) => tables,
@@ -305,9 +307,11 @@ pub fn check(cache: &[u8]) -> Check {
         }
     }
     let mut icons = 0;
+    let mut longest = 0;
     for bucket in 0..tables.buckets {
         let bucket_field = tables.bucket_field(bucket);
         let chain = chain(cache, bucket_field);
+        longest = longest.max(chain.records.len());
         for &record in &chain.records {
             icons += 1;
             if let Err(fault) = icon(cache, &tables, bucket, record) {
@@ -326,6 +330,7 @@ pub fn check(cache: &[u8]) -> Check {
         directories: tables.directories,
         icons,
         opened: icons,
+        longest,
     }
 }
 

@@ -47,6 +47,7 @@ impl<'a> Pair<'a> {
             directories: answer.directories,
             icons: answer.icons,
             opened: answer.opened,
+            longest: answer.longest,
         };
         let reader = reader::check(&self.copy);
         self.agree(|| "check".into(), library, reader)?;
@@ -225,6 +226,7 @@ fn checked(answer: &reader::Check) -> Result<Checked, Refusal> {
         directories: answer.directories,
         icons: answer.icons,
         opened,
+        longest: answer.longest,
     })
 }
 
