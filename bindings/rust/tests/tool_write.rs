@@ -56,18 +56,18 @@ fn write_the_farm() {
     let catalogue = folder.file("farm", FARM);
     let file = folder.path("icon-theme.cache");
     let shown = file.display();
-    for (options, buckets, length) in [
-        (vec![], "3 buckets", 138),
-        (vec!["--buckets", "3"], "3 buckets", 138),
-        (vec!["--buckets=1"], "1 bucket", 130),
+    for (options, chains, length) in [
+        (vec![], "3 buckets, longest chain 2", 138),
+        (vec!["--buckets", "3"], "3 buckets, longest chain 2", 138),
+        (vec!["--buckets=1"], "1 bucket, longest chain 3", 130),
         (
             vec!["--buckets=9", "--buckets=4096"],
-            "4096 buckets",
+            "4096 buckets, longest chain 1",
             16_510,
         ),
     ] {
         let expected =
-            format!("{shown}: written: 3 icons, 2 directories, {buckets}, {length} bytes\n");
+            format!("{shown}: written: 3 icons, 2 directories, {chains}, {length} bytes\n");
         write(&catalogue, &file, &options).expect(0, &expected);
         let cache = fs::read(&file).unwrap();
         assert_eq!(cache.len(), length);
@@ -84,7 +84,7 @@ fn write_from_standard_input() {
     let file = folder.path("cache");
     let arguments = ["write", "-", "-o", file.to_str().unwrap()];
     let expected = format!(
-        "{}: written: 3 icons, 2 directories, 3 buckets, 138 bytes\n",
+        "{}: written: 3 icons, 2 directories, 3 buckets, longest chain 2, 138 bytes\n",
         file.display()
     );
     run_with_input(&arguments, FARM).expect(0, &expected);
@@ -370,9 +370,10 @@ fn hostile_bytes() {
     let catalogue = folder.file(OsStr::from_bytes(b"\x1b[2J"), b"\0\0\0\x01\x03a\x1bb\0\0");
     let file = folder.path(OsStr::from_bytes(b"\x1b\xff=x"));
     let ran = write(&catalogue, &file, &["--buckets=2"]);
+    let what = "1 icon, 0 directories, 2 buckets, longest chain 1, 48 bytes";
     assert!(
         ran.output
-            .ends_with("/\\u{1b}\\xFF=x: written: 1 icon, 0 directories, 2 buckets, 48 bytes\n"),
+            .ends_with(&format!("/\\u{{1b}}\\xFF=x: written: {what}\n")),
         "{}",
         ran.output
     );

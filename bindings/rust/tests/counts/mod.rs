@@ -95,10 +95,14 @@ pub enum Met {
     NoDirectories,
     /// A type above 2, in words of a wrong number.
     CountBeforeType,
+    /// All records of the longest chain opened, of two or more, in an accepted cache:
+    /// for an absent name, and for one that its last record bears.
+    LongestMissed,
+    LongestFound,
 }
 
 impl Met {
-    const ALL: [Met; 28] = [
+    const ALL: [Met; 30] = [
         Met::WholeWalk,
         Met::EmptyBuckets,
         Met::RecordAgain,
@@ -127,6 +131,8 @@ impl Met {
         Met::NoneFits,
         Met::NoDirectories,
         Met::CountBeforeType,
+        Met::LongestMissed,
+        Met::LongestFound,
     ];
 }
 

@@ -13,7 +13,11 @@ use std::os::unix::ffi::OsStrExt;
 pub enum Request {
     Help(&'static str),
     Version,
-    Check(Vec<OsString>),
+    Check {
+        files: Vec<OsString>,
+        /// With a chart of the chains.
+        verbose: bool,
+    },
     Lookup {
         file: OsString,
         names: Vec<OsString>,
@@ -79,7 +83,7 @@ const COMMANDS: [Command; 7] = [
         name: "check",
         help: help::CHECK,
         options: &[],
-        switches: &[],
+        switches: &[VERBOSE],
         request: check,
     },
     Command {
@@ -134,6 +138,7 @@ const SCALE: &str = "--scale";
 const OUTPUT: &str = "-o";
 const BUCKETS: &str = "--buckets";
 const TEXT: &str = "--text";
+const VERBOSE: &str = "--verbose";
 
 /// What stands behind the name of a command.
 #[derive(Default)]
@@ -231,11 +236,12 @@ fn option(
 
 /// Standard input can be read only once.
 fn check(given: Given) -> Result<Request, &'static str> {
+    let verbose = given.switches.contains(VERBOSE);
     let files = given.operands;
     let from_input = files.iter().filter(|file| is_standard_input(file));
     match (files.len(), from_input.count()) {
         (0, _) => Err("a file is missing"),
-        (_, 0 | 1) => Ok(Request::Check(files)),
+        (_, 0 | 1) => Ok(Request::Check { files, verbose }),
         _ => Err("standard input is named twice"),
     }
 }

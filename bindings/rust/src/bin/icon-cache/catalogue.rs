@@ -35,8 +35,11 @@ pub fn write(
         let buckets = buckets.unwrap_or_else(|| usual_buckets(catalogue.icons.len()));
         match icon_cache::write(bytes, buckets) {
             Ok(cache) => {
+                let checked = icon_cache::check(&cache).expect("what is written is accepted");
+                let longest = checked.longest;
+                let sizes = sizes_of(&catalogue);
                 let buckets = show::count(buckets, "bucket", "buckets");
-                let what = format!("{}, {buckets}", sizes_of(&catalogue));
+                let what = format!("{sizes}, {buckets}, longest chain {longest}");
                 put(output, file, &cache, &what)
             }
             Err(refusal) => say_refused(output, shown, &refusal),

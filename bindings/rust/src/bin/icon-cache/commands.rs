@@ -1,15 +1,16 @@
 //! The commands on one cache, or several.
 
+use crate::chains;
 use crate::input::Source;
 use crate::output::{Colour, Output, Status};
 use crate::show;
 use icon_cache::raw::{self, Position};
-use icon_cache::{Found, Image, Numbering, Record, Refusal, LARGEST};
+use icon_cache::{Checked, Found, Image, Numbering, Record, Refusal, LARGEST};
 use std::ffi::{OsStr, OsString};
 
-pub fn check(output: &mut Output, files: &[OsString]) -> Status {
+pub fn check(output: &mut Output, files: &[OsString], verbose: bool) -> Status {
     let status = files.iter().map(|file| {
-        let status = check_file(output, file);
+        let status = check_file(output, file, verbose);
         output.flush();
         status
     });
@@ -78,21 +79,31 @@ pub fn for_names(
     status.max().unwrap_or(Status::Good)
 }
 
-fn check_file(output: &mut Output, file: &OsStr) -> Status {
-    with_cache(
-        output,
-        file,
-        |output, shown, cache| match icon_cache::check(cache) {
-            Ok(checked) => {
-                let icons = show::count(checked.icons, "icon", "icons");
-                let directories = show::count(checked.directories, "directory", "directories");
-                let accepted = output.paint(Colour::Green, "accepted");
-                output.line(&format!("{shown}: {accepted}: {icons}, {directories}"));
-                Status::Good
+fn check_file(output: &mut Output, file: &OsStr, verbose: bool) -> Status {
+    with_cache(output, file, |output, shown, cache| {
+        let checked = match icon_cache::check(cache) {
+            Ok(checked) => checked,
+            Err(refusal) => return say_check_refused(output, shown, &refusal),
+        };
+        say_accepted(output, shown, &checked);
+        if verbose {
+            let chains = chains::by_length(cache, checked.longest);
+            for line in chains::chart(&chains) {
+                output.line(&line);
             }
-            Err(refusal) => say_check_refused(output, shown, &refusal),
-        },
-    )
+        }
+        Status::Good
+    })
+}
+
+fn say_accepted(output: &mut Output, shown: &str, checked: &Checked) {
+    let accepted = output.paint(Colour::Green, "accepted");
+    let icons = show::count(checked.icons, "icon", "icons");
+    let directories = show::count(checked.directories, "directory", "directories");
+    let longest = checked.longest;
+    output.line(&format!(
+        "{shown}: {accepted}: {icons}, {directories}, longest chain {longest}"
+    ));
 }
 
 /// What the check refuses. All paths are judged before a record is opened.

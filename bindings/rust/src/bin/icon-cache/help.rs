@@ -35,11 +35,19 @@ TERM is dumb.";
 pub const CHECK: &str = "\
 Says whether each cache is sound, in one line for each file.
 
-Usage: icon-cache check FILE...
+Usage: icon-cache check FILE... [--verbose]
 
-An accepted cache is shown with the number of its icons and directories. For a
-refused one the line says which rule it breaks first, at which offset (decimal
-and hex), and what that means.
+An accepted cache is shown with the number of its icons and directories, and
+with how many records the longest of its buckets' chains has: no lookup opens
+more. For a refused one the line says which rule it breaks first, at which
+offset (decimal and hex), and what that means.
+
+Options:
+  --verbose   below the line of an accepted cache, show how many chains have
+              each length, as bars, and how many icons are found with one record
+              opened. A length that no chain has is left out; where there are
+              more than 12, those from 4 on are put together as 4-7, 8-15 and
+              so on
 
 A directory as FILE stands for the icon-theme.cache in it, and - for standard
 input. A file above 16,777,216 bytes is refused by rule 2 and not read further.
@@ -167,7 +175,8 @@ Options:
   -o FILE       the cache to write. It takes the place of FILE only when it is
                 stored as a whole; with a refusal FILE stays as it was
   --buckets N   how many buckets the cache has, 1 to 4096; if none is given, the
-                smallest prime not below the number of icons, at most 4093
+                smallest prime not below the number of icons, at most 4093. The
+                line says how long the longest chain has become
   --text        show the catalogue and write nothing
   --numbering freedesktop|gtk
                 how flags are shown, as in `icon-cache lookup --help`

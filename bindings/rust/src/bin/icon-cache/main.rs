@@ -4,6 +4,7 @@
 
 mod arguments;
 mod catalogue;
+mod chains;
 mod commands;
 mod help;
 mod input;
@@ -30,7 +31,7 @@ fn answer(output: &mut Output, request: Request) -> Status {
     match request {
         Request::Help(text) => say(output, text),
         Request::Version => say(output, help::VERSION),
-        Request::Check(files) => commands::check(output, &files),
+        Request::Check { files, verbose } => commands::check(output, &files, verbose),
         Request::Lookup {
             file,
             names,
