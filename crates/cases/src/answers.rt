@@ -3,7 +3,6 @@ use flags::FlagsAnswer;
 use format::LookupAnswer;
 use libc::STDOUT_FILENO;
 use listing::Position;
-use std::num::wrapping_add_usize;
 
 pub fn print(text: &[u8]) {
     io::write_all(STDOUT_FILENO, text);
@@ -41,20 +40,6 @@ pub fn begin_lookup(case: &[u8], answer: LookupAnswer) {
     count(b", opened ", answer.opened);
 }
 
-// A function, so that no loop has to show that its word fits.
-pub fn wide(word: u32) -> usize {
-    word as usize
-}
-
-// One more than `before` if what is counted holds.
-pub fn counted(before: usize, holds: bool) -> usize {
-    if holds {
-        wrapping_add_usize(before, 1)
-    } else {
-        before
-    }
-}
-
 fn print_words(words: &[u32]) {
     if words.len() == 0 {
         print(b", no words");
@@ -63,17 +48,8 @@ fn print_words(words: &[u32]) {
     print(b", words");
     let mut i = 0;
     while i < words.len() {
-        count(b" ", wide(words[i]));
+        count(b" ", lent::wide(words[i]));
         i += 1;
-    }
-}
-
-// The front of `words`, as many as are to be lent.
-pub fn front(words: &mut [u32], room: usize) -> &mut [u32] {
-    if room < words.len() {
-        &mut words[0..room]
-    } else {
-        words
     }
 }
 
@@ -87,7 +63,7 @@ fn lookup_into(case: &[u8], cache: &[u8], name: &[u8], words: &mut [u32]) {
 // shows.
 pub fn lookup(case: &[u8], cache: &[u8], name: &[u8], room: usize) {
     let mut words = [7u32; 6];
-    lookup_into(case, cache, name, front(&mut words, room));
+    lookup_into(case, cache, name, lent::front(&mut words, room));
 }
 
 pub fn directory(case: &[u8], cache: &[u8], index: usize) {

@@ -1,37 +1,13 @@
 // Catalogues written as caches, and caches listed as catalogues. What is to stand in the lent bytes
 // stands in the buffer, from 1,024 on.
 use crate::answers;
-use crate::script;
 use catalogue::WriteAnswer;
-use std::num::wrapping_add_usize;
-
-// How many of the lent bytes are as those in the buffer.
-fn count_same(lent: &[u8], buffer: &[u8]) -> usize {
-    let mut count: usize = 0;
-    let mut at: usize = 1024;
-    let mut i = 0;
-    while i < lent.len() {
-        count = answers::counted(count, lent[i] == script::byte(buffer, at));
-        at = wrapping_add_usize(at, 1);
-        i += 1;
-    }
-    count
-}
 
 fn say(case: &[u8], call: &[u8], answer: WriteAnswer, lent: &[u8], buffer: &[u8]) {
     answers::begin(case, call, answer.number, answer.place);
     answers::count(b", length ", answer.length);
-    answers::count(b", bytes right ", count_same(lent, buffer));
+    answers::count(b", bytes right ", lent::count_same(lent, buffer));
     answers::end();
-}
-
-// The front of `bytes`, as many as are to be lent.
-fn front(bytes: &mut [u8], room: usize) -> &mut [u8] {
-    if room < bytes.len() {
-        &mut bytes[0..room]
-    } else {
-        bytes
-    }
 }
 
 fn write_into(case: &[u8], catalogue: &[u8], buckets: usize, lent: &mut [u8], buffer: &[u8]) {
@@ -43,7 +19,13 @@ fn write_into(case: &[u8], catalogue: &[u8], buckets: usize, lent: &mut [u8], bu
 // one shows.
 pub fn write(case: &[u8], catalogue: &[u8], buckets: usize, room: usize, buffer: &[u8]) {
     let mut bytes = [46u8; 256];
-    write_into(case, catalogue, buckets, front(&mut bytes, room), buffer);
+    write_into(
+        case,
+        catalogue,
+        buckets,
+        lent::front_bytes(&mut bytes, room),
+        buffer,
+    );
 }
 
 fn list_into(case: &[u8], cache: &[u8], lent: &mut [u8], buffer: &[u8]) {
@@ -54,5 +36,5 @@ fn list_into(case: &[u8], cache: &[u8], lent: &mut [u8], buffer: &[u8]) {
 // Lists a cache as a catalogue in the same way.
 pub fn list(case: &[u8], cache: &[u8], room: usize, buffer: &[u8]) {
     let mut bytes = [46u8; 256];
-    list_into(case, cache, front(&mut bytes, room), buffer);
+    list_into(case, cache, lent::front_bytes(&mut bytes, room), buffer);
 }

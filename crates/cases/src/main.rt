@@ -2,16 +2,15 @@
 // call. The stored output was written from the documents, so a run that differs is a fault of the
 // code. The head of the file `stdin` says how a case is written.
 mod answers;
-mod build;
 mod calls;
 mod catalogues;
 mod icons;
 mod images;
 mod picks;
-mod script;
 
-use build::Lengths;
 use libc::STDIN_FILENO;
+use made_caches::Lengths;
+use made_caches::script;
 
 // Where the name of the case at hand stands in the script.
 struct Title {
@@ -40,8 +39,8 @@ fn run_line(
     before: Lengths,
 ) -> Lengths {
     let words = script::split(line);
-    let lengths = build::resize(words, cache, kept, before);
-    build::write(line, words, cache);
+    let lengths = made_caches::resize(words, cache, kept, before);
+    made_caches::write(line, words, cache);
     calls::ask(case, line, words, cache, lengths.cache);
     lengths
 }

@@ -1,10 +1,10 @@
--- `cases::build::put_string` is safe and ends: one byte each turn. The cache keeps its length.
+-- `made_caches::put_string` is safe and ends: one byte each turn. The cache keeps its length.
 use Prim.Native.Nat.{_-_}
 use mathlib.Core.Path.{_≡_}
 use lib.ListN.{length}
 use borrow.Author.Needs.{needs}
-use Rattle.cases.proofs.build.put_string.Statement.{statement}
-use Rattle.cases.proofs.build.put_string.Tie as tie
+use Rattle.made_caches.proofs.put_string.Statement.{statement}
+use Rattle.made_caches.proofs.put_string.Tie as tie
 
 abbrev Inv-loop : tie.InvT-loop
 Inv-loop cache₀ at string i₀ cache i = length cache ≡ length cache₀

@@ -1,26 +1,28 @@
--- `cases::catalogues::count_same` is safe and ends: one byte each turn.
+-- `made_caches::script::number` is safe and ends: one digit each turn.
 use Prim.Native.Nat.{_-_}
 use lib.ListN.{length}
 use borrow.Author.Needs.{needs}
-use Rattle.cases.proofs.catalogues.count_same.Statement.{statement}
-use Rattle.cases.proofs.catalogues.count_same.Tie as tie
+use Rattle.made_caches.proofs.script.number.Statement.{statement}
+use Rattle.made_caches.proofs.script.number.Tie as tie
 
 abbrev Inv-loop : tie.InvT-loop
-Inv-loop lent buffer count₀ at₀ i₀ count at i = Unit {0}
+Inv-loop line at n₀ i₀ n i = Unit {0}
 
 abbrev μ-loop : tie.MeasureT-loop
-μ-loop lent buffer count₀ at₀ i₀ count at i = length lent - i
+μ-loop line at n₀ i₀ n i = length line - i
 
-pub count-same-spec : {M : Type 1} → statement M
-count-same-spec =
+pub number-spec : {M : Type 1} → statement M
+number-spec =
     tie.close
     (tie.spec
     Inv-loop
     μ-loop
     (λ c. search needs)
     (λ c. search needs)
+    (λ c. search needs)
     (λ c κs. search needs)
     (λ c κs. search needs)
+    (λ c. search needs)
     (λ c κs. search needs)
     (λ c. search needs)
     (λ c. search needs)

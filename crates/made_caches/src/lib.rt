@@ -1,9 +1,11 @@
-// The commands that make a cache. It stands at the front of a larger buffer. A byte past the
-// buffer's end is left out; the stored output would show that it is missing.
-use crate::icons;
-use crate::images;
-use crate::script;
-use crate::script::Words;
+// Makes caches as the lines of a script say: the commands that write into one, and those that give it
+// a length. It stands at the front of a larger buffer. A byte past the buffer's end is left out; the
+// stored output of the cases would show that it is missing.
+pub mod icons;
+mod images;
+pub mod script;
+
+use script::Words;
 use std::num::wrapping_add_usize;
 
 // How many bytes the cache has, and the kept one.

@@ -1,27 +1,25 @@
--- `cases::picks::read` is safe and ends: one word each turn.
+-- `made_caches::fill` is safe and ends: one byte each turn. The cache keeps its length.
 use Prim.Native.Nat.{_-_}
 use mathlib.Core.Path.{_≡_}
 use lib.ListN.{length}
 use borrow.Author.Needs.{needs}
-use Rattle.cases.proofs.picks.read.Statement.{statement}
-use Rattle.cases.proofs.picks.read.Tie as tie
+use Rattle.made_caches.proofs.fill.Statement.{statement}
+use Rattle.made_caches.proofs.fill.Tie as tie
 
 abbrev Inv-loop : tie.InvT-loop
-Inv-loop buffer words₀ at₀ i₀ words at i = length words ≡ length words₀
+Inv-loop cache₀ at count value i₀ cache i = length cache ≡ length cache₀
 
 abbrev μ-loop : tie.MeasureT-loop
-μ-loop buffer words₀ at₀ i₀ words at i = length words₀ - i
+μ-loop cache₀ at count value i₀ cache i = count - i
 
-pub read-spec : {M : Type 1} → statement M
-read-spec =
+pub fill-spec : {M : Type 1} → statement M
+fill-spec =
     tie.close
     (tie.spec
     Inv-loop
     μ-loop
     (λ c. search needs)
     (λ c κs. search needs)
-    (λ c. search needs)
-    (λ c. search needs)
     (λ c κs. search needs)
     (λ c. search needs)
     (λ c. search needs)
