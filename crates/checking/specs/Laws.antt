@@ -18,7 +18,7 @@ use Rattle.format.specs.Laws.Follow.{opens-one, chain-short}
 use Rattle.format.specs.Laws.Buckets.{bucket-ends, bucket-breaks, bucket-goes-on}
 use Rattle.format.specs.Laws.Links.{broken-number}
 use Rattle.format.specs.Laws.Course.{Course, ends, breaks, goes-on, course, ended-length}
-use Rattle.icon_cache.specs.Buckets.{unnamedOn, Checking}
+use Rattle.checking.specs.Buckets.{unnamedOn, Checking}
 
 pub checking-first : {s : List ℕ} {n : ℕ} → n ≡ buckets s → Checking s n 0 0 0
 unfolding longestBelow

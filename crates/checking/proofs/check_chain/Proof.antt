@@ -1,4 +1,4 @@
--- `icon_cache::check_chain` meets its contract: a walk that meets an end before it has to look ahead
+-- `checking::check_chain` meets its contract: a walk that meets an end before it has to look ahead
 -- is that of the whole chain.
 use Prim.Native.Nat.{ℕ}
 use mathlib.Core.Path.{_≡_, ap, sym, _∙_}
@@ -12,9 +12,9 @@ use Rattle.tables.specs.Laws.{valid-header}
 use Rattle.chains.specs.Walk.{walked}
 use Rattle.chains.specs.Laws.{walked-goes, walked-ended, walked-broken}
 use Rattle.chains.specs.declared.Walked.{Walked}
-use Rattle.icon_cache.specs.Buckets.{unnamedOn}
-use Rattle.icon_cache.proofs.check_chain.Statement.{statement}
-use Rattle.icon_cache.proofs.check_chain.Tie as tie
+use Rattle.checking.specs.Buckets.{unnamedOn}
+use Rattle.checking.proofs.check_chain.Statement.{statement}
+use Rattle.checking.proofs.check_chain.Tie as tie
 
 check-long-requires : tie.Need-check-long-requires
 check-long-requires c κs =

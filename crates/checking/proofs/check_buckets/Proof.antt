@@ -1,4 +1,4 @@
--- `icon_cache::check_buckets` meets its contract. The loop's invariant is `Checking`: the rest of
+-- `checking::check_buckets` meets its contract. The loop's invariant is `Checking`: the rest of
 -- the check is the whole. A chain that ends leads to the next bucket, and any other to the answer.
 use Prim.Native.Nat.{suc, _+_, _-_, _≤_}
 use mathlib.Core.Path.{_≡_, _∙_}
@@ -7,10 +7,10 @@ use native.Mathlib.Omega.{arith}
 use borrow.Author.Needs.{needs}
 use denote.Ref.{now}
 use Rattle.tables.specs.Laws.{valid-header, same-buckets, same-directories}
-use Rattle.icon_cache.specs.Buckets.{Checking}
-use Rattle.icon_cache.specs.Laws.{checking-first, opened-few, checking-refuses, checking-on, checking-done}
-use Rattle.icon_cache.proofs.check_buckets.Statement.{statement}
-use Rattle.icon_cache.proofs.check_buckets.Tie as tie
+use Rattle.checking.specs.Buckets.{Checking}
+use Rattle.checking.specs.Laws.{checking-first, opened-few, checking-refuses, checking-on, checking-done}
+use Rattle.checking.proofs.check_buckets.Statement.{statement}
+use Rattle.checking.proofs.check_buckets.Tie as tie
 
 abbrev Inv-loop : tie.InvT-loop
 Inv-loop cache t n most bucket₀ opened₀ longest₀ bucket opened longest = (bucket ≤ n) × Checking cache (n - bucket) bucket opened longest

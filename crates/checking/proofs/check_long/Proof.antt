@@ -1,4 +1,4 @@
--- `icon_cache::check_long` meets its contract: the walk's answer is the chain, and the field that
+-- `checking::check_long` meets its contract: the walk's answer is the chain, and the field that
 -- of its bucket.
 use mathlib.Core.Path.{ap, _∙_}
 use native.Mathlib.Omega.{arith}
@@ -8,9 +8,9 @@ use Rattle.format.specs.Chain.{chainOf}
 use Rattle.format.specs.Call.{unnamed}
 use Rattle.tables.specs.Laws.{valid-header, same-field}
 use Rattle.chains.specs.declared.Walked.{Walked}
-use Rattle.icon_cache.specs.Buckets.{unnamedOn}
-use Rattle.icon_cache.proofs.check_long.Statement.{statement}
-use Rattle.icon_cache.proofs.check_long.Tie as tie
+use Rattle.checking.specs.Buckets.{unnamedOn}
+use Rattle.checking.proofs.check_long.Statement.{statement}
+use Rattle.checking.proofs.check_long.Tie as tie
 
 finish-requires : tie.Need-finish-requires
 finish-requires c κs =
