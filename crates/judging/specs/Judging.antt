@@ -6,22 +6,13 @@ use lib.ListN.{length}
 use lib.Dec.{leb}
 use Rattle.format.specs.Number.{be}
 use Rattle.format.specs.Part.{inside}
-use Rattle.format.specs.Fault.{unless, _orElse_, ifKept, firstFault}
+use Rattle.format.specs.Fault.{unless, _orElse_, firstFault}
 use Rattle.format.specs.declared.Fault.{Fault}
 use Rattle.catalogue.specs.Row.{rowEnd, row}
 use Rattle.catalogue.specs.Fields.{iconEnd}
 use Rattle.catalogue.specs.Judgement.{iconFieldsFault}
 use Rattle.catalogue.specs.Repeats.{iconUse, repeatFault}
-use Rattle.judging.specs.declared.Judged.{Judged}
 use Rattle.judging.specs.declared.Parts.{Parts}
-
--- what is judged of fields, and where they end if they keep the rules
-abbrev pub judged : Fault → ℕ → Judged
-judged v e = record { fault = v; end = ifKept v e 0 }
-
--- what is judged of n things in a row
-abbrev pub rowJudged : (ℕ → Fault) → (ℕ → ℕ) → ℕ → ℕ → Judged
-rowJudged judge next n p = judged (firstFault judge next n p) (rowEnd next n p)
 
 -- what is judged from the count of icons on, at p, in a catalogue with n directories
 unfoldable pub iconsFault : List ℕ → ℕ → ℕ → Fault

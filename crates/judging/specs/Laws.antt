@@ -1,5 +1,4 @@
 -- What the proofs of the code rest on. A reader of the contracts need not read what stands here.
-pub mod Judging
 pub mod Sections
 pub mod Repeating
 pub mod Bounds

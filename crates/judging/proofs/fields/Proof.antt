@@ -9,10 +9,10 @@ use Rattle.format.specs.Fault.{firstFault}
 use Rattle.format.specs.Laws.Faults.{same-number}
 use Rattle.catalogue.specs.Fields.{pathEnd, pathCount, iconCountAt}
 use Rattle.catalogue.specs.Judgement.{pathFieldsFault}
-use Rattle.judging.specs.Judging.{rowJudged}
-use Rattle.judging.specs.Laws.Judging.{path-inside, row-inside, judged-end}
+use Rattle.entries.specs.Judged.{rowJudged}
+use Rattle.entries.specs.Laws.{path-inside, row-inside, judged-end}
 use Rattle.judging.specs.Laws.Sections.{parted-broken, first-count-cut, paths-refused, icons-decide}
-use Rattle.judging.specs.declared.Judged.{Judged}
+use Rattle.entries.specs.declared.Judged.{Judged}
 use Rattle.judging.proofs.fields.Statement.{statement}
 use Rattle.judging.proofs.fields.Tie as tie
 

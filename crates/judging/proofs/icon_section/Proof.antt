@@ -12,10 +12,10 @@ use Rattle.format.specs.Laws.Faults.{same-number}
 use Rattle.catalogue.specs.Row.{rowEnd}
 use Rattle.catalogue.specs.Fields.{iconEnd}
 use Rattle.catalogue.specs.Judgement.{iconFieldsFault}
-use Rattle.judging.specs.Judging.{rowJudged}
-use Rattle.judging.specs.Laws.Judging.{judged-end}
+use Rattle.entries.specs.Judged.{rowJudged}
+use Rattle.entries.specs.Laws.{judged-end}
 use Rattle.judging.specs.Laws.Sections.{parted-broken, count-cut, icons-refused, more-follows, icons-kept}
-use Rattle.judging.specs.declared.Judged.{Judged}
+use Rattle.entries.specs.declared.Judged.{Judged}
 use Rattle.judging.proofs.icon_section.Statement.{statement}
 use Rattle.judging.proofs.icon_section.Tie as tie
 

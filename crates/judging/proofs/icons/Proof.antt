@@ -7,8 +7,8 @@ use borrow.Author.Needs.{needs}
 use lib.ListN.{length}
 use Rattle.catalogue.specs.Fields.{iconEnd}
 use Rattle.catalogue.specs.Judgement.{iconFieldsFault}
-use Rattle.judging.specs.Judging.{rowJudged}
-use Rattle.judging.specs.Laws.Judging.{icon-inside, judged-done, judged-stops, judged-inside, judged-goes-on}
+use Rattle.entries.specs.Judged.{rowJudged}
+use Rattle.entries.specs.Laws.{icon-inside, judged-done, judged-stops, judged-inside, judged-goes-on}
 use Rattle.judging.proofs.icons.Statement.{statement}
 use Rattle.judging.proofs.icons.Tie as tie
 

@@ -7,8 +7,8 @@ use borrow.Author.Needs.{needs}
 use lib.ListN.{length}
 use Rattle.catalogue.specs.Fields.{pathEnd}
 use Rattle.catalogue.specs.Judgement.{pathFieldsFault}
-use Rattle.judging.specs.Judging.{rowJudged}
-use Rattle.judging.specs.Laws.Judging.{path-inside, judged-done, judged-stops, judged-inside, judged-goes-on}
+use Rattle.entries.specs.Judged.{rowJudged}
+use Rattle.entries.specs.Laws.{path-inside, judged-done, judged-stops, judged-inside, judged-goes-on}
 use Rattle.judging.proofs.paths.Statement.{statement}
 use Rattle.judging.proofs.paths.Tie as tie
 

@@ -18,7 +18,7 @@ use Rattle.catalogue.specs.Fields.{AreBytes, pathLength, pathEnd, nameLength, i
 use Rattle.catalogue.specs.Judgement.{validPathLength, validNameLength, validImageCount, pathFieldsFault, iconFieldsFault, fieldsFault}
 use Rattle.catalogue.specs.Laws.Spans.{number-fits}
 use Rattle.judging.specs.Judging.{Listed, Parted}
-use Rattle.judging.specs.Laws.Judging.{icon-inside, row-inside}
+use Rattle.entries.specs.Laws.{icon-inside, row-inside}
 use Rattle.judging.specs.Laws.Sections.{fields-kept}
 use Rattle.judging.specs.declared.Parts.{Parts}
 

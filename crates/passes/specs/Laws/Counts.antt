@@ -14,7 +14,7 @@ use Rattle.catalogue.specs.Written.{listsUpTo, pathsUpTo, namesUpTo, writtenSiz
 use Rattle.catalogue.specs.Laws.Rows.{row-length, end-next}
 use Rattle.catalogue.specs.Laws.Spans.{number-fits}
 use Rattle.catalogue.specs.Laws.Judged.{told}
-use Rattle.judging.specs.Laws.Judging.{row-inside, icon-inside}
+use Rattle.entries.specs.Laws.{row-inside, icon-inside}
 use Rattle.passes.specs.Passes.{Judged}
 use Rattle.passes.specs.Laws.Paths.{path-size}
 use Rattle.passes.specs.Laws.Icons.{name-size, list-size}

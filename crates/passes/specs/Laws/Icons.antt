@@ -18,7 +18,7 @@ use Rattle.catalogue.specs.Laws.Rows.{row-at, row-length, row-keeps, end-steps}
 use Rattle.catalogue.specs.Laws.Spans.{spans-are, part-length}
 use Rattle.catalogue.specs.Laws.Judged.{row-told, image-told}
 use Rattle.catalogue.specs.Laws.Cursor.{IconThere, icon-there}
-use Rattle.judging.specs.Laws.Judging.{icon-inside}
+use Rattle.entries.specs.Laws.{icon-inside}
 use Rattle.passes.specs.Passes.{Judged}
 
 module _ {c : List ℕ} {paths icons first : ℕ} (h : Judged c paths icons first) {i p : ℕ} (l : i < icons) (here : p ≡ rowEnd (iconEnd c) i first) where

@@ -11,7 +11,7 @@ use Rattle.catalogue.specs.Judgement.{pathFieldsFault, fieldsFault}
 use Rattle.catalogue.specs.LaidOut.{nthPath, stringBytes}
 use Rattle.catalogue.specs.Laws.Rows.{row-at, row-keeps}
 use Rattle.catalogue.specs.Laws.Spans.{part-length}
-use Rattle.judging.specs.Laws.Judging.{path-inside}
+use Rattle.entries.specs.Laws.{path-inside}
 use Rattle.passes.specs.Passes.{Judged}
 
 module _ {c : List ℕ} {paths icons first : ℕ} (h : Judged c paths icons first) {i p : ℕ} (l : i < paths) (here : p ≡ rowEnd (pathEnd c) i 2) where

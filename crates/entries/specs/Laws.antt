@@ -18,8 +18,8 @@ use Rattle.catalogue.specs.Row.{rowEnd}
 use Rattle.catalogue.specs.Fields.{pathEnd, imageEnd, imageCount, imageCountAt, firstImageAt, iconEnd}
 use Rattle.catalogue.specs.Judgement.{validPathLength, validPathText, validImageField, validNameLength, validNameText, validImageCount, pathFieldsFault, imageFieldFault, iconFieldsFault}
 use Rattle.catalogue.specs.Laws.Rows.{end-steps}
-use Rattle.judging.specs.Judging.{judged, rowJudged}
-use Rattle.judging.specs.declared.Judged.{Judged}
+use Rattle.entries.specs.Judged.{judged, rowJudged}
+use Rattle.entries.specs.declared.Judged.{Judged}
 
 -- a number of one byte is that byte
 pub one-byte : (s : List ℕ) (p : ℕ) → be 1 s p ≡ getD s p 0

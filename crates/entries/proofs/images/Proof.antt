@@ -1,4 +1,4 @@
--- `judging::images` meets its contract. The loop's invariant: the judgement of the images that are
+-- `entries::images` meets its contract. The loop's invariant: the judgement of the images that are
 -- left is that of all. Each turn is one of the laws `judged-stops` and `judged-goes-on`.
 use Prim.Native.Nat.{_+_, _-_, _≤_}
 use mathlib.Core.Path.{_≡_, refl, sym, ap, _∙_}
@@ -12,11 +12,11 @@ use Rattle.format.specs.Fault.{noFault}
 use Rattle.format.specs.Laws.Faults.{unless-broken}
 use Rattle.catalogue.specs.Fields.{imageEnd}
 use Rattle.catalogue.specs.Judgement.{validImageField, imageFieldFault}
-use Rattle.judging.specs.Judging.{judged, rowJudged}
-use Rattle.judging.specs.Laws.Judging.{refuses, judged-done, judged-stops, judged-goes-on}
-use Rattle.judging.specs.declared.Judged.{Judged}
-use Rattle.judging.proofs.images.Statement.{statement}
-use Rattle.judging.proofs.images.Tie as tie
+use Rattle.entries.specs.Judged.{judged, rowJudged}
+use Rattle.entries.specs.Laws.{refuses, judged-done, judged-stops, judged-goes-on}
+use Rattle.entries.specs.declared.Judged.{Judged}
+use Rattle.entries.proofs.images.Statement.{statement}
+use Rattle.entries.proofs.images.Tie as tie
 
 abbrev Inv-loop : tie.InvT-loop
 Inv-loop catalogue n m at left₀ here₀ left here =

@@ -1,4 +1,4 @@
--- `judging::valid_image` meets its contract: an arm for each part of the definition.
+-- `entries::valid_image` meets its contract: an arm for each part of the definition.
 use Prim.Native.Nat.{_+_, _≤_, _<_}
 use mathlib.Core.Path.{_≡_, ap, _∙_, sym}
 use native.Mathlib.Omega.{arith}
@@ -9,8 +9,8 @@ use lib.ListN.{length}
 use denote.Ref.{now}
 use Rattle.format.specs.Number.{be}
 use Rattle.format.specs.Record.{validIndex}
-use Rattle.judging.proofs.valid_image.Statement.{statement}
-use Rattle.judging.proofs.valid_image.Tie as tie
+use Rattle.entries.proofs.valid_image.Statement.{statement}
+use Rattle.entries.proofs.valid_image.Tie as tie
 
 returns : tie.Need-returns
 returns c =

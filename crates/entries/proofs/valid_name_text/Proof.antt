@@ -1,4 +1,4 @@
--- `judging::valid_name_text` meets its contract: the name is not there, or is judged.
+-- `entries::valid_name_text` meets its contract: the name is not there, or is judged.
 use Prim.Native.Nat.{_+_, _-_, _≤_, _<_}
 use mathlib.Core.Path.{_≡_, ap, _∙_}
 use native.Mathlib.Omega.{arith}
@@ -8,8 +8,8 @@ use lib.ListN.{length, take, drop}
 use denote.Ref.{now}
 use Rattle.format.specs.Number.{be}
 use Rattle.format.specs.String.{allowed}
-use Rattle.judging.proofs.valid_name_text.Statement.{statement}
-use Rattle.judging.proofs.valid_name_text.Tie as tie
+use Rattle.entries.proofs.valid_name_text.Statement.{statement}
+use Rattle.entries.proofs.valid_name_text.Tie as tie
 
 returns : tie.Need-returns
 returns c =

@@ -1,4 +1,4 @@
--- `judging::valid_name_length` meets its contract.
+-- `entries::valid_name_length` meets its contract.
 use Prim.Native.Nat.{_+_, _≤_, _<_}
 use mathlib.Core.Path.{ap}
 use native.Mathlib.Omega.{arith}
@@ -6,8 +6,8 @@ use borrow.Author.Tests.{le-leb, lt-leb}
 use lib.Dec.{ltb}
 use lib.ListN.{length}
 use denote.Ref.{now}
-use Rattle.judging.proofs.valid_name_length.Statement.{statement}
-use Rattle.judging.proofs.valid_name_length.Tie as tie
+use Rattle.entries.proofs.valid_name_length.Statement.{statement}
+use Rattle.entries.proofs.valid_name_length.Tie as tie
 
 returns : tie.Need-returns
 returns c =

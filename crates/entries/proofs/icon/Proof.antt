@@ -1,4 +1,4 @@
--- `judging::icon` meets its contract: each `return` is one law of the icon's fields, and its images
+-- `entries::icon` meets its contract: each `return` is one law of the icon's fields, and its images
 -- decide where the fields before them are kept.
 use Prim.Native.Nat.{_+_, _≤_, _<_}
 use mathlib.Core.Path.{_≡_, sym, ap, _∙_}
@@ -13,10 +13,10 @@ use Rattle.format.specs.Part.{inside}
 use Rattle.format.specs.Fault.{fault}
 use Rattle.catalogue.specs.Fields.{imageCountAt, imageCount, imageEnd}
 use Rattle.catalogue.specs.Judgement.{validNameLength, validNameText, validImageCount, imageFieldFault}
-use Rattle.judging.specs.Judging.{judged, rowJudged}
-use Rattle.judging.specs.Laws.Judging.{refuses, name-length-refused, name-length-inside, name-refused, name-inside, count-refused, count-inside, images-decide}
-use Rattle.judging.proofs.icon.Statement.{statement}
-use Rattle.judging.proofs.icon.Tie as tie
+use Rattle.entries.specs.Judged.{judged, rowJudged}
+use Rattle.entries.specs.Laws.{refuses, name-length-refused, name-length-inside, name-refused, name-inside, count-refused, count-inside, images-decide}
+use Rattle.entries.proofs.icon.Statement.{statement}
+use Rattle.entries.proofs.icon.Tie as tie
 
 returns : tie.Need-returns
 returns c = refuses _ (name-length-refused _ _ _ (sym (c .before .before .valid-name-length .ensures) ∙ not-true _ (c .before .if1 .taken))) (c .refused .ensures)

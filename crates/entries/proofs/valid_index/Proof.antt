@@ -1,7 +1,7 @@
--- `judging::valid_index` meets its contract.
+-- `entries::valid_index` meets its contract.
 use borrow.Author.Tests.{eq-eqb, ne-eqb}
-use Rattle.judging.proofs.valid_index.Statement.{statement}
-use Rattle.judging.proofs.valid_index.Tie as tie
+use Rattle.entries.proofs.valid_index.Statement.{statement}
+use Rattle.entries.proofs.valid_index.Tie as tie
 
 returns : tie.Need-returns
 returns c = rw (eq-eqb _ _ (c .if1 .taken))

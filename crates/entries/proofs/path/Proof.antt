@@ -1,4 +1,4 @@
--- `judging::path` meets its contract: each `return` is one law of the path's fields.
+-- `entries::path` meets its contract: each `return` is one law of the path's fields.
 use Prim.Native.Nat.{_+_, _≤_}
 use mathlib.Core.Path.{_≡_, sym, ap, _∙_}
 use mathlib.Core.Bool.{true}
@@ -8,10 +8,10 @@ use lib.ListN.{length}
 use denote.Ref.{now}
 use Rattle.format.specs.Fault.{noFault}
 use Rattle.catalogue.specs.Judgement.{validPathLength}
-use Rattle.judging.specs.Judging.{judged}
-use Rattle.judging.specs.Laws.Judging.{refuses, keeps, length-refused, length-inside, text-refused, path-kept}
-use Rattle.judging.proofs.path.Statement.{statement}
-use Rattle.judging.proofs.path.Tie as tie
+use Rattle.entries.specs.Judged.{judged}
+use Rattle.entries.specs.Laws.{refuses, keeps, length-refused, length-inside, text-refused, path-kept}
+use Rattle.entries.proofs.path.Statement.{statement}
+use Rattle.entries.proofs.path.Tie as tie
 
 returns : tie.Need-returns
 returns c = refuses _ (length-refused _ _ (sym (c .before .before .valid-path-length .ensures) ∙ not-true _ (c .before .if1 .taken))) (c .refused .ensures)

@@ -1,4 +1,4 @@
--- `judging::valid_image_count` meets its contract.
+-- `entries::valid_image_count` meets its contract.
 use Prim.Native.Nat.{_+_, _≤_, _<_}
 use mathlib.Core.Path.{ap}
 use native.Mathlib.Omega.{arith}
@@ -7,8 +7,8 @@ use borrow.Author.Tests.{le-leb, lt-leb}
 use lib.Dec.{leb}
 use lib.ListN.{length}
 use denote.Ref.{now}
-use Rattle.judging.proofs.valid_image_count.Statement.{statement}
-use Rattle.judging.proofs.valid_image_count.Tie as tie
+use Rattle.entries.proofs.valid_image_count.Statement.{statement}
+use Rattle.entries.proofs.valid_image_count.Tie as tie
 
 returns : tie.Need-returns
 returns c =

@@ -1,12 +1,12 @@
--- `judging::valid_path_length` meets its contract: an arm for each part of the definition.
+-- `entries::valid_path_length` meets its contract: an arm for each part of the definition.
 use Prim.Native.Nat.{_+_, _≤_, _<_}
 use native.Mathlib.Omega.{arith}
 use borrow.Author.Needs.{needs}
 use borrow.Author.Tests.{le-leb, lt-leb, lt-ltb, le-ltb}
 use lib.ListN.{length}
 use denote.Ref.{now}
-use Rattle.judging.proofs.valid_path_length.Statement.{statement}
-use Rattle.judging.proofs.valid_path_length.Tie as tie
+use Rattle.entries.proofs.valid_path_length.Statement.{statement}
+use Rattle.entries.proofs.valid_path_length.Tie as tie
 
 returns : tie.Need-returns
 returns c =
