@@ -7,7 +7,7 @@ ghost use Rattle.format.specs.Chain.{recordsBelow, allRecords};
 ghost use Rattle.gathering.specs.Chains.{Sound};
 ghost use Rattle.gathering.specs.Order.{Gathered, Ordered};
 use bigendian::u32_at;
-use names::Kind;
+use keys::Kind;
 use names::met;
 use tables::Tables;
 use tables::bucket_field;

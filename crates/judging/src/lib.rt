@@ -18,7 +18,7 @@ use entries::icon;
 use entries::kept;
 use entries::path;
 use format::Fault;
-use names::Kind;
+use keys::Kind;
 
 // The answer of a call that is refused.
 pub fn refusal(number: u32, place: usize) -> WriteAnswer

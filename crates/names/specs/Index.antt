@@ -7,10 +7,10 @@ use mathlib.Core.Bool.{Bool, true}
 use lib.ListN.{getD}
 use Rattle.format.specs.Choice.{if_then_else_}
 use Rattle.format.specs.String.{among}
-use Rattle.names.specs.declared.Ordering.the-variants.{Less}
+use Rattle.keys.specs.declared.Ordering.the-variants.{Less}
 use Rattle.names.specs.declared.Spot.{Spot}
 use Rattle.names.specs.declared.Spot.the-variants.{Found, Missing}
-use Rattle.names.specs.Order.{order}
+use Rattle.keys.specs.Order.{order}
 
 -- the key of entry i
 abbrev pub entry : (ℕ → List ℕ) → List ℕ → ℕ → List ℕ

@@ -1,4 +1,3 @@
-pub mod Order
 pub mod Between
 pub mod Index
 pub mod Repeat

@@ -1,33 +1,16 @@
 // Whether a key was met before: a string, a name or an offset, among as many as the caller lends
 // words for. Those met are kept as an index: their offsets, in rising order of the keys, so that
 // one is found by halving.
-mod keys;
-
 ghost use mathlib.Core.Path.{_≡_};
 ghost use mathlib.Core.List.{List};
 ghost use Prim.Native.Nat.{ℕ, _≤_, _<_};
 ghost use lib.ListN.{length};
 ghost use Rattle.format.specs.String.{among};
-ghost use Rattle.names.specs.Key.{keyAt};
+ghost use Rattle.keys.specs.Key.{keyAt};
 ghost use Rattle.names.specs.Index.{Rising, Represents, Within, Spotted, Inserted, Answered};
+use keys::Kind;
+use keys::Ordering;
 use keys::compare;
-
-// What the key of an offset is.
-pub enum Kind {
-    // The string there, which a zero byte or the buffer's end ends: a name or a path of a cache.
-    Ended,
-    // The name that follows the byte there, which says how long it is: one of a catalogue.
-    Counted,
-    // The offset itself: of a record.
-    Offset,
-}
-
-// How one key compares with another.
-enum Ordering {
-    Less,
-    Equal,
-    Greater,
-}
 
 // The entry of an index that has a key, or the one that it would be.
 pub enum Spot {

@@ -8,8 +8,8 @@ use native.Mathlib.Numerals.{add-one}
 use native.Mathlib.Omega.{arith}
 use Rattle.format.specs.Layout.{nameField}
 use Rattle.format.specs.Number.{be}
-use Rattle.names.specs.Key.{keyAt}
-use Rattle.names.specs.declared.Kind.the-variants.{Ended}
+use Rattle.keys.specs.Key.{keyAt}
+use Rattle.keys.specs.declared.Kind.the-variants.{Ended}
 use Rattle.names.specs.Repeat.{FirstRepeat, seen, Taken, Looked}
 use Rattle.names.specs.Laws.Repeat.{none-repeated, repeat-early, block-passed}
 use Rattle.rounds.specs.Stepping.{ahead}

@@ -11,10 +11,10 @@ use lib.ListN.{length}
 use Rattle.format.specs.Fault.{fault, noFault}
 use Rattle.format.specs.String.{among}
 use Rattle.format.specs.Laws.Faults.{broken-speaks, kept-passes}
-use Rattle.names.specs.Key.{keyAt}
+use Rattle.keys.specs.Key.{keyAt}
 use Rattle.names.specs.Index.{Represents, Answered}
 use Rattle.names.specs.Laws.Index.{nothing-met}
-use Rattle.names.specs.declared.Kind.the-variants.{Counted}
+use Rattle.keys.specs.declared.Kind.the-variants.{Counted}
 use Rattle.catalogue.specs.Row.{rowEnd, row}
 use Rattle.catalogue.specs.Fields.{nameText, iconEnd}
 use Rattle.catalogue.specs.Repeats.{repeatFault}

@@ -4,9 +4,9 @@ use Prim.Native.Nat.{ℕ, _+_, _-_, _/_, _≤_, _<_}
 use mathlib.Core.Path.{_≡_, sym, _∙_}
 use native.Mathlib.Omega.{arith}
 use borrow.Author.Needs.{needs}
-use Rattle.names.specs.Key.{keyAt}
+use Rattle.keys.specs.Key.{keyAt}
 use Rattle.names.specs.Index.{Rising, Between}
-use Rattle.names.specs.Laws.Order.{order-equal}
+use Rattle.keys.specs.Laws.{order-equal}
 use Rattle.names.specs.Laws.Between.{between-all, after-middle, before-middle}
 use Rattle.names.proofs.find.Statement.{statement}
 use Rattle.names.proofs.find.Tie as tie

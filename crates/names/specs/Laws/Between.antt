@@ -5,11 +5,11 @@ use mathlib.Core.Path.{_≡_, sym, _∙_}
 use mathlib.Core.List.{List}
 use native.Mathlib.Omega.{arith}
 use native.Mathlib.Decide.{decLt}
-use Rattle.names.specs.declared.Ordering.{Ordering}
-use Rattle.names.specs.declared.Ordering.the-variants.{Less, Greater}
-use Rattle.names.specs.Order.{order}
+use Rattle.keys.specs.declared.Ordering.{Ordering}
+use Rattle.keys.specs.declared.Ordering.the-variants.{Less, Greater}
+use Rattle.keys.specs.Order.{order}
 use Rattle.names.specs.Index.{entry, Rising, Holds, Between}
-use Rattle.names.specs.Laws.Order.{not-less-than-itself, greater-less, less-than-a-lesser}
+use Rattle.keys.specs.Laws.{not-less-than-itself, greater-less, less-than-a-lesser}
 
 module _ (key : ℕ → List ℕ) (index : List ℕ) (n : ℕ) (t : List ℕ) where
   pub between-all : Between key index n t 0 n

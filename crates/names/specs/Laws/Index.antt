@@ -9,10 +9,10 @@ use native.Mathlib.Decide.{decLt}
 use lib.ListN.{getD}
 use Rattle.format.specs.String.{among}
 use Rattle.format.specs.Laws.Names.{among-first, among-rest, among-either}
-use Rattle.names.specs.declared.Ordering.the-variants.{Less}
-use Rattle.names.specs.Order.{order}
+use Rattle.keys.specs.declared.Ordering.the-variants.{Less}
+use Rattle.keys.specs.Order.{order}
 use Rattle.names.specs.Index.{entry, Rising, Holds, Represents, Between, Inserted, Answered}
-use Rattle.names.specs.Laws.Order.{numbers-less}
+use Rattle.keys.specs.Laws.{numbers-less}
 use Rattle.names.specs.Laws.Between.{not-held}
 
 -- at the start: no entries

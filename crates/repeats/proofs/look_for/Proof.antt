@@ -4,8 +4,8 @@ use Prim.Native.Nat.{ℕ, _-_, _≤_}
 use mathlib.Core.Path.{_≡_, refl}
 use mathlib.Core.List.{List}
 use native.Mathlib.Omega.{arith}
-use Rattle.names.specs.declared.Kind.the-variants.{Ended}
-use Rattle.names.specs.Key.{keyAt}
+use Rattle.keys.specs.declared.Kind.the-variants.{Ended}
+use Rattle.keys.specs.Key.{keyAt}
 use Rattle.names.specs.Index.{Represents}
 use Rattle.names.specs.Repeat.{Looked}
 use Rattle.names.specs.Laws.Repeat.{looked-none, looked-more, looked-found}

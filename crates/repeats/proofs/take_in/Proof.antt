@@ -4,8 +4,8 @@ use Prim.Native.Nat.{_-_, _≤_}
 use mathlib.Core.Path.{_≡_, refl}
 use native.Mathlib.Omega.{arith}
 use lib.ListN.{length}
-use Rattle.names.specs.declared.Kind.the-variants.{Ended}
-use Rattle.names.specs.Key.{keyAt}
+use Rattle.keys.specs.declared.Kind.the-variants.{Ended}
+use Rattle.keys.specs.Key.{keyAt}
 use Rattle.names.specs.Repeat.{Taken}
 use Rattle.names.specs.Laws.Repeat.{taken-none, taken-more, taken-again}
 use Rattle.rounds.specs.Stepping.{ahead}

@@ -1,9 +1,9 @@
--- `names::keys::compare_numbers` meets its contract: the first numbers are the only ones.
+-- `keys::compare_numbers` meets its contract: the first numbers are the only ones.
 use mathlib.Core.Path.{sym, _∙_}
 use native.Mathlib.Omega.{arith}
-use Rattle.names.specs.Laws.Order.{both-end, first-less, first-greater, first-equal}
-use Rattle.names.proofs.keys.compare_numbers.Statement.{statement}
-use Rattle.names.proofs.keys.compare_numbers.Tie as tie
+use Rattle.keys.specs.Laws.{both-end, first-less, first-greater, first-equal}
+use Rattle.keys.proofs.compare_numbers.Statement.{statement}
+use Rattle.keys.proofs.compare_numbers.Tie as tie
 
 returns : tie.Need-returns
 returns c = sym (first-less _ _ _ _ (c .if1 .taken))

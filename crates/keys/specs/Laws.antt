@@ -7,8 +7,8 @@ use mathlib.Core.List.{List, [], _∷_}
 use native.Mathlib.Omega.{arith}
 use native.Mathlib.Decide.{decLt}
 use borrow.Author.Tests.{lt-ltb, le-ltb}
-use Rattle.names.specs.declared.Ordering.the-variants.{Less, Equal, Greater}
-use Rattle.names.specs.Order.{order}
+use Rattle.keys.specs.declared.Ordering.the-variants.{Less, Equal, Greater}
+use Rattle.keys.specs.Order.{order}
 
 -- how two numbers compare
 data Compared (x y : ℕ) : Type 0 where

@@ -1,8 +1,8 @@
--- `names::keys::compare` meets its contract: each kind of key has its own comparison.
+-- `keys::compare` meets its contract: each kind of key has its own comparison.
 use mathlib.Core.Path.{_∙_}
 use borrow.Author.Needs.{needs}
-use Rattle.names.proofs.keys.compare.Statement.{statement}
-use Rattle.names.proofs.keys.compare.Tie as tie
+use Rattle.keys.proofs.compare.Statement.{statement}
+use Rattle.keys.proofs.compare.Tie as tie
 
 returns : tie.Need-returns
 returns c =

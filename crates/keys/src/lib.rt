@@ -1,13 +1,28 @@
-// How the keys of two offsets compare, by their kind.
+// How the keys of two offsets of a buffer compare, by their kind.
 ghost use mathlib.Core.Path.{_≡_};
 ghost use mathlib.Core.List.{[], _∷_};
 ghost use lib.ListN.{take, getD};
 ghost use Rattle.format.specs.String.{string};
-ghost use Rattle.names.specs.Order.{order};
-ghost use Rattle.names.specs.Key.{nameAfter, keyAt};
-use crate::Kind;
-use crate::Ordering;
+ghost use Rattle.keys.specs.Order.{order};
+ghost use Rattle.keys.specs.Key.{nameAfter, keyAt};
 use strings::from;
+
+// What the key of an offset is.
+pub enum Kind {
+    // The string there, which a zero byte or the buffer's end ends: a name or a path of a cache.
+    Ended,
+    // The name that follows the byte there, which says how long it is: one of a catalogue.
+    Counted,
+    // The offset itself: of a record.
+    Offset,
+}
+
+// How one key compares with another.
+pub enum Ordering {
+    Less,
+    Equal,
+    Greater,
+}
 
 // The byte at `i`, and 0 past the end.
 fn byte(s: &[u8], i: usize) -> u8

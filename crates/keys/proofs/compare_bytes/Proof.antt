@@ -1,4 +1,4 @@
--- `names::keys::compare_bytes` meets its contract: what is left of both compares as the whole does.
+-- `keys::compare_bytes` meets its contract: what is left of both compares as the whole does.
 use Prim.Native.Nat.{ℕ, _+_, _-_, _≤_, _<_}
 use mathlib.Core.Path.{_≡_, refl, sym, _∙_}
 use mathlib.Core.List.{List}
@@ -7,11 +7,11 @@ use native.Mathlib.Omega.{arith}
 use borrow.Author.Needs.{needs}
 use lib.ListN.{length, drop, getD, drop-of-length-le}
 use lib.Seq.{drop-cons}
-use Rattle.names.specs.declared.Ordering.the-variants.{Less, Equal, Greater}
-use Rattle.names.specs.Order.{order}
-use Rattle.names.specs.Laws.Order.{both-end, end-less, end-greater, first-less, first-greater, first-equal}
-use Rattle.names.proofs.keys.compare_bytes.Statement.{statement}
-use Rattle.names.proofs.keys.compare_bytes.Tie as tie
+use Rattle.keys.specs.declared.Ordering.the-variants.{Less, Equal, Greater}
+use Rattle.keys.specs.Order.{order}
+use Rattle.keys.specs.Laws.{both-end, end-less, end-greater, first-less, first-greater, first-equal}
+use Rattle.keys.proofs.compare_bytes.Statement.{statement}
+use Rattle.keys.proofs.compare_bytes.Tie as tie
 
 abbrev Inv-loop : tie.InvT-loop
 Inv-loop a b i₀ i = (i ≤ length a) × (i ≤ length b) × (order (drop i a) (drop i b) ≡ order a b)

@@ -1,12 +1,12 @@
--- `names::keys::front` meets its contract: where there are no more bytes, all of them are the first
+-- `keys::front` meets its contract: where there are no more bytes, all of them are the first
 -- n.
 use mathlib.Core.Path.{sym}
 use native.Mathlib.Omega.{arith}
 use borrow.Author.Needs.{needs}
 use denote.Ref.{now}
 use lib.Seq.{length-take-le, take-all}
-use Rattle.names.proofs.keys.front.Statement.{statement}
-use Rattle.names.proofs.keys.front.Tie as tie
+use Rattle.keys.proofs.front.Statement.{statement}
+use Rattle.keys.proofs.front.Tie as tie
 
 slice-aggregate-result : tie.Need-slice-aggregate-result
 slice-aggregate-result c =

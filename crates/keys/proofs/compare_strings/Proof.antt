@@ -1,4 +1,4 @@
--- `names::keys::compare_strings` meets its contract: what is left of both strings compares as the
+-- `keys::compare_strings` meets its contract: what is left of both strings compares as the
 -- whole does. A string stops where the byte is 0.
 use Prim.Native.Nat.{ℕ, _+_, _-_, _≤_, _<_}
 use mathlib.Core.Path.{_≡_, refl, sym, _∙_}
@@ -9,11 +9,11 @@ use borrow.Author.Needs.{needs}
 use lib.ListN.{length, drop, getD, List·getD-eq-default}
 use Rattle.format.specs.String.{string}
 use Rattle.format.specs.Laws.Strings.{string-stops, string-goes-on}
-use Rattle.names.specs.declared.Ordering.the-variants.{Less, Equal, Greater}
-use Rattle.names.specs.Order.{order}
-use Rattle.names.specs.Laws.Order.{both-end, end-less, end-greater, first-less, first-greater, first-equal}
-use Rattle.names.proofs.keys.compare_strings.Statement.{statement}
-use Rattle.names.proofs.keys.compare_strings.Tie as tie
+use Rattle.keys.specs.declared.Ordering.the-variants.{Less, Equal, Greater}
+use Rattle.keys.specs.Order.{order}
+use Rattle.keys.specs.Laws.{both-end, end-less, end-greater, first-less, first-greater, first-equal}
+use Rattle.keys.proofs.compare_strings.Statement.{statement}
+use Rattle.keys.proofs.compare_strings.Tie as tie
 
 module _ (a b : List ℕ) (i : ℕ) where
   both-stop : getD a i 0 ≡ 0 → getD b i 0 ≡ 0 → order (string (drop i a)) (string (drop i b)) ≡ Equal

@@ -4,8 +4,8 @@ use mathlib.Core.List.{List, [], _∷_}
 use lib.ListN.{take, drop}
 use Rattle.format.specs.Number.{be}
 use Rattle.format.specs.String.{string}
-use Rattle.names.specs.declared.Kind.{Kind}
-use Rattle.names.specs.declared.Kind.the-variants.{Ended, Counted, Offset}
+use Rattle.keys.specs.declared.Kind.{Kind}
+use Rattle.keys.specs.declared.Kind.the-variants.{Ended, Counted, Offset}
 
 -- the name that follows the byte at p, which says how long it is; no more bytes than there are
 abbrev pub nameAfter : List ℕ → ℕ → List ℕ
