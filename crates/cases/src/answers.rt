@@ -48,7 +48,7 @@ fn print_words(words: &[u32]) {
     print(b", words");
     let mut i = 0;
     while i < words.len() {
-        count(b" ", lent::wide(words[i]));
+        count(b" ", cases_lent::wide(words[i]));
         i += 1;
     }
 }
@@ -63,7 +63,7 @@ fn lookup_into(case: &[u8], cache: &[u8], name: &[u8], words: &mut [u32]) {
 // shows.
 pub fn lookup(case: &[u8], cache: &[u8], name: &[u8], room: usize) {
     let mut words = [7u32; 6];
-    lookup_into(case, cache, name, lent::front(&mut words, room));
+    lookup_into(case, cache, name, cases_lent::front(&mut words, room));
 }
 
 pub fn directory(case: &[u8], cache: &[u8], index: usize) {

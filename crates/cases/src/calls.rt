@@ -4,9 +4,9 @@ use crate::catalogues;
 use crate::icons;
 use crate::images;
 use crate::picks;
+use cases_made::script;
+use cases_made::script::Words;
 use listing::Position;
-use made_caches::script;
-use made_caches::script::Words;
 use std::num::wrapping_add_usize;
 
 // The lookups and the picks. A query's name is a part of the buffer.

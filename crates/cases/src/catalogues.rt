@@ -6,7 +6,7 @@ use catalogue::WriteAnswer;
 fn say(case: &[u8], call: &[u8], answer: WriteAnswer, lent: &[u8], buffer: &[u8]) {
     answers::begin(case, call, answer.number, answer.place);
     answers::count(b", length ", answer.length);
-    answers::count(b", bytes right ", lent::count_same(lent, buffer));
+    answers::count(b", bytes right ", cases_lent::count_same(lent, buffer));
     answers::end();
 }
 
@@ -23,7 +23,7 @@ pub fn write(case: &[u8], catalogue: &[u8], buckets: usize, room: usize, buffer:
         case,
         catalogue,
         buckets,
-        lent::front_bytes(&mut bytes, room),
+        cases_lent::front_bytes(&mut bytes, room),
         buffer,
     );
 }
@@ -36,5 +36,10 @@ fn list_into(case: &[u8], cache: &[u8], lent: &mut [u8], buffer: &[u8]) {
 // Lists a cache as a catalogue in the same way.
 pub fn list(case: &[u8], cache: &[u8], room: usize, buffer: &[u8]) {
     let mut bytes = [46u8; 256];
-    list_into(case, cache, lent::front_bytes(&mut bytes, room), buffer);
+    list_into(
+        case,
+        cache,
+        cases_lent::front_bytes(&mut bytes, room),
+        buffer,
+    );
 }

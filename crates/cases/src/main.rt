@@ -8,9 +8,9 @@ mod icons;
 mod images;
 mod picks;
 
+use cases_made::Lengths;
+use cases_made::script;
 use libc::STDIN_FILENO;
-use made_caches::Lengths;
-use made_caches::script;
 
 // Where the name of the case at hand stands in the script.
 struct Title {
@@ -39,8 +39,8 @@ fn run_line(
     before: Lengths,
 ) -> Lengths {
     let words = script::split(line);
-    let lengths = made_caches::resize(words, cache, kept, before);
-    made_caches::write(line, words, cache);
+    let lengths = cases_made::resize(words, cache, kept, before);
+    cases_made::write(line, words, cache);
     calls::ask(case, line, words, cache, lengths.cache);
     lengths
 }

@@ -1,6 +1,6 @@
 // Picks. The words lent for the directories stand in the buffer, from 1,024 on.
 use crate::answers;
-use made_caches::script::Words;
+use cases_made::script::Words;
 
 // The low 32 bits.
 fn low(value: usize) -> u32 {
@@ -16,7 +16,7 @@ fn pick_with(case: &[u8], cache: &[u8], name: &[u8], w: Words, directories: &[u3
 // A pick for size `w.b` and scale `w.c` with `w.a` words lent, at most 24.
 pub fn pick(case: &[u8], cache: &[u8], name: &[u8], w: Words, buffer: &[u8]) {
     let mut words = [0u32; 24];
-    let words = lent::front(&mut words, w.a);
-    lent::read(buffer, words);
+    let words = cases_lent::front(&mut words, w.a);
+    cases_lent::read(buffer, words);
     pick_with(case, cache, name, w, words);
 }

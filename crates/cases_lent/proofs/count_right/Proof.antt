@@ -1,8 +1,8 @@
--- `lent::count_right` is safe and ends: one image each turn.
+-- `cases_lent::count_right` is safe and ends: one image each turn.
 use Prim.Native.Nat.{_-_}
 use borrow.Author.Needs.{needs}
-use Rattle.lent.proofs.count_right.Statement.{statement}
-use Rattle.lent.proofs.count_right.Tie as tie
+use Rattle.cases_lent.proofs.count_right.Statement.{statement}
+use Rattle.cases_lent.proofs.count_right.Tie as tie
 
 abbrev Inv-loop : tie.InvT-loop
 Inv-loop words count₀ i₀ count i = Unit {0}

@@ -1,9 +1,9 @@
--- `made_caches::script::find` meets its contract and ends: one byte each turn, from `at` on.
+-- `cases_made::script::find` meets its contract and ends: one byte each turn, from `at` on.
 use Prim.Native.Nat.{_≤_, _-_}
 use lib.ListN.{length}
 use borrow.Author.Needs.{needs}
-use Rattle.made_caches.proofs.script.find.Statement.{statement}
-use Rattle.made_caches.proofs.script.find.Tie as tie
+use Rattle.cases_made.proofs.script.find.Statement.{statement}
+use Rattle.cases_made.proofs.script.find.Tie as tie
 
 abbrev Inv-loop : tie.InvT-loop
 Inv-loop line at stop i₀ i = at ≤ i

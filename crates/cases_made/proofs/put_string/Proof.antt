@@ -1,10 +1,10 @@
--- `made_caches::put_string` is safe and ends: one byte each turn. The cache keeps its length.
+-- `cases_made::put_string` is safe and ends: one byte each turn. The cache keeps its length.
 use Prim.Native.Nat.{_-_}
 use mathlib.Core.Path.{_≡_}
 use lib.ListN.{length}
 use borrow.Author.Needs.{needs}
-use Rattle.made_caches.proofs.put_string.Statement.{statement}
-use Rattle.made_caches.proofs.put_string.Tie as tie
+use Rattle.cases_made.proofs.put_string.Statement.{statement}
+use Rattle.cases_made.proofs.put_string.Tie as tie
 
 abbrev Inv-loop : tie.InvT-loop
 Inv-loop cache₀ at string i₀ cache i = length cache ≡ length cache₀

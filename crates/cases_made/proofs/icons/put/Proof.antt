@@ -1,16 +1,16 @@
--- `made_caches::images::put` is safe and ends: one image each turn. The cache keeps its length.
+-- `cases_made::icons::put` is safe and ends: one icon each turn. The cache keeps its length.
 use Prim.Native.Nat.{_-_}
 use mathlib.Core.Path.{_≡_}
 use lib.ListN.{length}
 use borrow.Author.Needs.{needs}
-use Rattle.made_caches.proofs.images.put.Statement.{statement}
-use Rattle.made_caches.proofs.images.put.Tie as tie
+use Rattle.cases_made.proofs.icons.put.Statement.{statement}
+use Rattle.cases_made.proofs.icons.put.Tie as tie
 
 abbrev Inv-loop : tie.InvT-loop
-Inv-loop cache₀ at count next₀ i₀ cache next i = length cache ≡ length cache₀
+Inv-loop cache₀ i₀ cache i = length cache ≡ length cache₀
 
 abbrev μ-loop : tie.MeasureT-loop
-μ-loop cache₀ at count next₀ i₀ cache next i = count - i
+μ-loop cache₀ i₀ cache i = 90 - i
 
 pub put-spec : {M : Type 1} → statement M
 put-spec =
@@ -19,7 +19,6 @@ put-spec =
     Inv-loop
     μ-loop
     (λ c. search needs)
-    (λ c κs. search needs)
     (λ c κs. search needs)
     (λ c. search needs)
     (λ c. search needs)

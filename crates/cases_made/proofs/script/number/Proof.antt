@@ -1,29 +1,29 @@
--- `lent::read` is safe and ends: one word each turn.
+-- `cases_made::script::number` is safe and ends: one digit each turn.
 use Prim.Native.Nat.{_-_}
-use mathlib.Core.Path.{_≡_}
 use lib.ListN.{length}
 use borrow.Author.Needs.{needs}
-use Rattle.lent.proofs.read.Statement.{statement}
-use Rattle.lent.proofs.read.Tie as tie
+use Rattle.cases_made.proofs.script.number.Statement.{statement}
+use Rattle.cases_made.proofs.script.number.Tie as tie
 
 abbrev Inv-loop : tie.InvT-loop
-Inv-loop buffer words₀ at₀ i₀ words at i = length words ≡ length words₀
+Inv-loop line at n₀ i₀ n i = Unit {0}
 
 abbrev μ-loop : tie.MeasureT-loop
-μ-loop buffer words₀ at₀ i₀ words at i = length words₀ - i
+μ-loop line at n₀ i₀ n i = length line - i
 
-pub read-spec : {M : Type 1} → statement M
-read-spec =
+pub number-spec : {M : Type 1} → statement M
+number-spec =
     tie.close
     (tie.spec
     Inv-loop
     μ-loop
     (λ c. search needs)
-    (λ c κs. search needs)
     (λ c. search needs)
     (λ c. search needs)
     (λ c κs. search needs)
+    (λ c κs. search needs)
     (λ c. search needs)
+    (λ c κs. search needs)
     (λ c. search needs)
     (λ c. search needs)
     (λ c. search needs)

@@ -1,9 +1,9 @@
--- `lent::sum` is safe and ends: one word each turn. The sum wraps by its own rule.
+-- `cases_lent::sum` is safe and ends: one word each turn. The sum wraps by its own rule.
 use Prim.Native.Nat.{_-_}
 use lib.ListN.{length}
 use borrow.Author.Needs.{needs}
-use Rattle.lent.proofs.sum.Statement.{statement}
-use Rattle.lent.proofs.sum.Tie as tie
+use Rattle.cases_lent.proofs.sum.Statement.{statement}
+use Rattle.cases_lent.proofs.sum.Tie as tie
 
 abbrev Inv-loop : tie.InvT-loop
 Inv-loop words sum₀ i₀ sum i = Unit {0}

@@ -2,7 +2,7 @@
 // call, and how much of what they hold after it is right. What they are to hold stands in the
 // buffer, from 1,024 on.
 ghost use Prim.Native.Nat.{_<_};
-use made_caches::script;
+use cases_made::script;
 use std::num::wrapping_add_usize;
 
 // A function, so that no loop has to show that its word fits.
@@ -72,7 +72,7 @@ pub fn count_same(lent: &[u8], buffer: &[u8]) -> usize {
     count
 }
 
-// Whether image i of those that `made_caches` puts stands in the words as document 01 says.
+// Whether image i of those that `cases_made` puts stands in the words as document 01 says.
 fn image_right(words: &[u32; 2048], i: u32) -> bool
     requires { ⌜ i < 1024 ⌝ }
 {

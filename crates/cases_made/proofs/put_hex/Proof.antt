@@ -1,10 +1,10 @@
--- `made_caches::put_hex` is safe and ends: one digit each turn. The cache keeps its length.
+-- `cases_made::put_hex` is safe and ends: one digit each turn. The cache keeps its length.
 use Prim.Native.Nat.{_-_}
 use mathlib.Core.Path.{_≡_}
 use lib.ListN.{length}
 use borrow.Author.Needs.{needs}
-use Rattle.made_caches.proofs.put_hex.Statement.{statement}
-use Rattle.made_caches.proofs.put_hex.Tie as tie
+use Rattle.cases_made.proofs.put_hex.Statement.{statement}
+use Rattle.cases_made.proofs.put_hex.Tie as tie
 
 abbrev Inv-loop : tie.InvT-loop
 Inv-loop cache₀ at hex n₀ i₀ cache n i = length cache ≡ length cache₀
