@@ -10,6 +10,7 @@ use Rattle.format.specs.Fault.{fault, unless, _orElse_, ifKept}
 use Rattle.format.specs.Chain.{allRecords}
 use Rattle.format.specs.Call.{check}
 use Rattle.format.specs.declared.Fault.{Fault}
+use Rattle.format.specs.declared.Reading.the-variants.{Short}
 use Rattle.catalogue.specs.Catalogue.{mostIcons, catalogueBytes}
 use Rattle.catalogue.specs.Fields.{catalogueIn}
 use Rattle.catalogue.specs.Repeats.{repeatFault, catalogueFault}
@@ -65,9 +66,9 @@ listedBytes s = catalogueBytes (listed s)
 -- what is judged before: the check's own, 20, 21 for more than 65,535 icons, then 19
 unfoldable pub listingFault : List ℕ → ℕ → Fault
 listingFault s room =
-    fault (check s .number) (check s .place)
+    fault (check Short s .number) (check Short s .place)
     orElse repeatFault [] (recordUses s)
-    orElse unless (leb (length (allRecords s)) mostIcons) 21 0
+    orElse unless (leb (length (allRecords Short s)) mostIcons) 21 0
     orElse unless (leb (length (listedBytes s)) room) 19 0
 
 -- the reader, with `room` bytes lent, and the lent bytes after it

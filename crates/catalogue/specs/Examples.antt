@@ -19,6 +19,7 @@ use Rattle.format.specs.Chain.{linkFault, follow, chain, longestBelow, recordsB
 use Rattle.format.specs.Answer.{accepted}
 use Rattle.format.specs.Call.{check, checkBuckets}
 use Rattle.format.specs.Farm.{farm, cow, oat, lent}
+use Rattle.format.specs.declared.Reading.the-variants.{Short}
 use Rattle.catalogue.specs.Row.{rowEnd, row}
 use Rattle.catalogue.specs.Catalogue.{catalogueBytes}
 use Rattle.catalogue.specs.Fields.{catalogueIn}
@@ -83,14 +84,14 @@ unfolding write writeFault _orElse_
 too-large c good e = simp (good, e)
 
 -- with room enough, 65,535 icons are listed, and one more is refused
-module _ (s : List ℕ) (m n l : ℕ) (e : check s ≡ accepted m n l) (apart : repeatFault [] (recordUses s) ≡ noFault) where
+module _ (s : List ℕ) (m n l : ℕ) (e : check Short s ≡ accepted m n l) (apart : repeatFault [] (recordUses s) ≡ noFault) where
   abbrev room : ℕ
   room = length (listedBytes s)
 
-  most-icons : length (allRecords s) ≡ 65535 → catalogueOf s room ≡ writeIs 0 0 room
+  most-icons : length (allRecords Short s) ≡ 65535 → catalogueOf s room ≡ writeIs 0 0 room
   unfolding catalogueOf listingFault _orElse_
   most-icons count = simp (e, apart, count, le-leb room room (le-refl room))
 
-  too-many : length (allRecords s) ≡ 65536 → catalogueOf s room ≡ writeIs 21 0 0
+  too-many : length (allRecords Short s) ≡ 65536 → catalogueOf s room ≡ writeIs 21 0 0
   unfolding catalogueOf listingFault _orElse_
   too-many count = simp (e, apart, count)

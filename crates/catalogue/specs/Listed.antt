@@ -10,6 +10,7 @@ use Rattle.format.specs.Layout.{nameField, entriesAt}
 use Rattle.format.specs.Header.{directories, pathOf}
 use Rattle.format.specs.Record.{nameOf, imagesAt, images}
 use Rattle.format.specs.Chain.{allRecords}
+use Rattle.format.specs.declared.Reading.the-variants.{Short}
 use Rattle.catalogue.specs.Catalogue.{Icon, Catalogue, iconIs, catalogueIs}
 use Rattle.catalogue.specs.Fields.{imagesFrom}
 use Rattle.catalogue.specs.Repeats.{Use, useIs}
@@ -26,7 +27,7 @@ rising xs (suc n) = if has xs n then rising xs n ++ (n ∷ []) else rising xs n
 
 -- the records by rising offset
 abbrev pub offsetOrder : List ℕ → List ℕ
-offsetOrder s = rising (allRecords s) (length s)
+offsetOrder s = rising (allRecords Short s) (length s)
 
 -- the first n of what f gives
 unfoldable pub firsts : {A : Type 0} → (ℕ → A) → ℕ → List A
@@ -42,4 +43,4 @@ listed s = catalogueIs (firsts (pathOf s) (directories s)) (map (iconOf s) (offs
 
 -- the names of the records in the check's order, each refused at its NAME_OFFSET
 unfoldable pub recordUses : List ℕ → List Use
-recordUses s = map (λ r. useIs (nameOf s r) (nameField r)) (allRecords s)
+recordUses s = map (λ r. useIs (nameOf s r) (nameField r)) (allRecords Short s)

@@ -11,6 +11,7 @@ use Rattle.format.specs.String.{allowed}
 use Rattle.format.specs.Answer.{lookedUp, accepted}
 use Rattle.format.specs.Call.{check, lookup, lookupWords}
 use Rattle.format.specs.Words.{greatest}
+use Rattle.format.specs.declared.Reading.the-variants.{Short}
 use Rattle.catalogue.specs.Catalogue.{Image, Catalogue}
 use Rattle.catalogue.specs.LaidOut.{nthIcon, iconBucket, Places}
 
@@ -41,7 +42,7 @@ fullest d b = greatest (λ k. countIn (iconBucket d b) k 0 (length (d .icons))) 
 -- s serves the catalogue by b buckets: all of it is counted, the longest chain is that of the fullest
 -- bucket, each name is found, and any other allowed name is absent
 pub record Serves (s : List ℕ) (d : Catalogue) (b : ℕ) (q : Places) : Type 0 where
-  pub accepts : check s ≡ accepted (length (d .paths)) (length (d .icons)) (fullest d b)
+  pub accepts : check Short s ≡ accepted (length (d .paths)) (length (d .icons)) (fullest d b)
   pub gives : (i : ℕ) → i < length (d .icons) → GivesIcon s d q i
   pub absent : (name : List ℕ) (room : ℕ) → allowed name ≡ true → ((i : ℕ) → i < length (d .icons) → nthIcon d i .name ≡ name → ⊥)
       → lookup s name room .number ≡ 30

@@ -7,6 +7,7 @@ use native.Mathlib.Omega.{arith}
 use Rattle.format.specs.Layout.{endValue}
 use Rattle.format.specs.Words.{link, linkField, Keeps, KeepsBelow}
 use Rattle.format.specs.Laws.Links.{Repeat, earlier}
+use Rattle.format.specs.declared.Reading.the-variants.{Short}
 use Rattle.rounds.specs.Stepping.{ahead, InsideBelow}
 use Rattle.rounds.specs.Laws.{ahead-field}
 use Rattle.chains.specs.Walk.{Stands}
@@ -21,8 +22,8 @@ all-alike {s} {k} {stop} {most} P back below m g = elim (decLt stop most) [
 
 -- so they keep the rules, and can be stepped
 module _ {s : List ℕ} {k stop most f o : ℕ} (back : stop < most → Repeat s k (suc stop)) (w : Stands s k f o) (last : o ≡ stop + 1) where
-  pub turned-keeps : KeepsBelow s k (suc most)
-  turned-keeps = all-alike (λ x. (x ≡ endValue → ⊥) × Keeps s k x) back (λ m l. w .keeps m (omega arith))
+  pub turned-keeps : KeepsBelow Short s k (suc most)
+  turned-keeps = all-alike (λ x. (x ≡ endValue → ⊥) × Keeps Short s k x) back (λ m l. w .keeps m (omega arith))
 
   module _ (few : stop ≤ most) where
     pub turned-inside : InsideBelow s f (most + 1 - o)

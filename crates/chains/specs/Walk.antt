@@ -7,6 +7,7 @@ use Rattle.format.specs.Chain.{Chain, chainOf, openedOn}
 use Rattle.format.specs.Words.{linkField, KeepsBelow}
 use Rattle.format.specs.Laws.Links.{Repeat}
 use Rattle.format.specs.declared.Next.the-variants.{Record}
+use Rattle.format.specs.declared.Reading.the-variants.{Short}
 use Rattle.chains.specs.declared.Walked.{Walked}
 
 -- how many records of a chain are opened, and what comes after those that keep the rules
@@ -21,7 +22,7 @@ steppedTo o r = record { opened = o; after = Record r }
 pub record Stands (s : List ℕ) (k f o : ℕ) : Type 0 where
   pub field : f ≡ linkField s k o
   pub inside : f + 4 ≤ length s
-  pub keeps : KeepsBelow s k o
+  pub keeps : KeepsBelow Short s k o
 
 -- r is from o on, and no further than `most`. How far is not said: no answer hangs on it, only the
 -- time
@@ -34,5 +35,5 @@ pub record Further (o most r : ℕ) : Type 0 where
 pub record Judged (s : List ℕ) (k most : ℕ) (a : Walked) : Type 0 where
   pub stop : ℕ
   pub few : stop ≤ most
-  pub walk : a ≡ walked (chainOf s k stop)
+  pub walk : a ≡ walked (chainOf Short s k stop)
   pub back : (r : ℕ) → a .after ≡ Record r → stop < most → Repeat s k (suc stop)

@@ -7,6 +7,7 @@ ghost use Rattle.format.specs.Chain.{chainOf};
 ghost use Rattle.format.specs.Words.{KeepsBelow};
 ghost use Rattle.format.specs.Chain as definition;
 ghost use Rattle.format.specs.Call as calls;
+ghost use Rattle.format.specs.declared.Reading.the-variants.{Short};
 ghost use Rattle.tables.specs.Tables.{TablesOf};
 ghost use Rattle.rounds.specs.Stepping.{InsideBelow};
 ghost use Rattle.rounds.specs.Stepping as rounds;
@@ -30,7 +31,7 @@ pub struct Walked {
 pub fn follow(cache: &[u8], t: Tables, bucket: u32, field: usize) -> Next
     requires { ⌜ TablesOf (now cache) t ⌝ }
     requires { ⌜ field + 4 ≤ length (now cache) ⌝ }
-    ensures { λ r. ⌜ r ≡ definition.follow (now (cache .entry)) bucket field ⌝ }
+    ensures { λ r. ⌜ r ≡ definition.follow Short (now (cache .entry)) bucket field ⌝ }
 {
     let named = u32_at(cache, field);
     if named == 0xFFFF_FFFF {
@@ -71,7 +72,7 @@ fn pass(
     requires { ⌜ TablesOf (now cache) t ⌝ }
     requires { ⌜ Stands (now cache) bucket field opened ⌝ }
     requires { ⌜ (opened ≤ most) × (most < length (now cache)) ⌝ }
-    ensures { λ r. ⌜ r ≡ walked (chainOf (now (cache .entry)) bucket most) ⌝ }
+    ensures { λ r. ⌜ r ≡ walked (chainOf Short (now (cache .entry)) bucket most) ⌝ }
 {
     loop {
         let after = follow(cache, t, bucket, field);
@@ -92,7 +93,7 @@ fn pass(
 pub fn walk(cache: &[u8], t: Tables, bucket: u32, most: usize) -> Walked
     requires { ⌜ TablesOf (now cache) t ⌝ }
     requires { ⌜ (bucket < buckets (now cache)) × (most < length (now cache)) ⌝ }
-    ensures { λ r. ⌜ r ≡ walked (chainOf (now (cache .entry)) bucket most) ⌝ }
+    ensures { λ r. ⌜ r ≡ walked (chainOf Short (now (cache .entry)) bucket most) ⌝ }
 {
     let field = bucket_field(t, bucket);
     pass(cache, t, bucket, field, 0, most)
@@ -140,7 +141,7 @@ pub fn go_round(cache: &[u8], mut field: usize, mut opened: usize, most: usize) 
 pub fn finish(cache: &[u8], chain: Walked, most: usize) -> Walked
     requires { ⌜ (most < length (now cache)) × (length (now cache) ≤ 2 ^ 24) ⌝ }
     requires { ⌜ ((k : ℕ) × Judged (now cache) k most chain) ⌝ }
-    ensures { λ r. ⌜ ((k : ℕ) → Judged (now (cache .entry)) k most chain → r ≡ walked (chainOf (now (cache .entry)) k most)) ⌝ }
+    ensures { λ r. ⌜ ((k : ℕ) → Judged (now (cache .entry)) k most chain → r ≡ walked (chainOf Short (now (cache .entry)) k most)) ⌝ }
 {
     let after = chain.after;
     let Next::Record(record) = after else {
@@ -155,7 +156,7 @@ pub fn finish(cache: &[u8], chain: Walked, most: usize) -> Walked
 pub fn go_on(cache: &[u8], t: Tables, bucket: u32, passed: usize, most: usize) -> Walked
     requires { ⌜ TablesOf (now cache) t ⌝ }
     requires { ⌜ (bucket < buckets (now cache)) × (passed ≤ most) × (most < length (now cache)) ⌝ }
-    requires { ⌜ KeepsBelow (now cache) bucket (passed + 1) ⌝ }
+    requires { ⌜ KeepsBelow Short (now cache) bucket (passed + 1) ⌝ }
     ensures { λ r. ⌜ Judged (now (cache .entry)) bucket most r ⌝ }
 {
     let first = bucket_field(t, bucket);

@@ -6,6 +6,7 @@ use lib.Dec.{ltb, eqb}
 use Rattle.format.specs.Choice.{if_then_else_}
 use Rattle.format.specs.Call.{check}
 use Rattle.format.specs.declared.CheckAnswer.{CheckAnswer}
+use Rattle.format.specs.declared.Reading.the-variants.{Short}
 use Rattle.check_cache.specs.declared.Line.{Line}
 use Rattle.check_cache.specs.declared.Line.the-variants.{Accepted, Refused, TooLarge}
 
@@ -15,4 +16,4 @@ lineOf a = if eqb (a .number) 0 then Accepted (a .icons) (a .directories) (a .lo
 
 -- the line for what was read: a cache of more than 65,536 bytes is not judged
 abbrev pub lineFor : List ℕ → Line
-lineFor s = if ltb 65536 (length s) then TooLarge else lineOf (check s)
+lineFor s = if ltb 65536 (length s) then TooLarge else lineOf (check Short s)

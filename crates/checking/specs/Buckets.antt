@@ -6,6 +6,7 @@ use Rattle.format.specs.Header.{buckets}
 use Rattle.format.specs.Chain.{Chain, mostRecords, longestBelow, openedOn}
 use Rattle.format.specs.Call.{checkBuckets, unnamed}
 use Rattle.format.specs.declared.Found.{Found}
+use Rattle.format.specs.declared.Reading.the-variants.{Short}
 
 -- what a search says of a chain on which no record bears the name; f is the bucket's field
 abbrev pub unnamedOn : ℕ → Chain → Found
@@ -15,5 +16,5 @@ unnamedOn f c = unnamed f (c .after) (openedOn c)
 -- `longest`; the rest of the check is the whole
 pub record Checking (s : List ℕ) (n k o longest : ℕ) : Type 0 where
   pub few : o ≤ mostRecords s
-  pub longest-is : longest ≡ longestBelow s k
-  pub rest : checkBuckets n s k o ≡ checkBuckets (buckets s) s 0 0
+  pub longest-is : longest ≡ longestBelow Short s k
+  pub rest : checkBuckets Short n s k o ≡ checkBuckets Short (buckets s) s 0 0

@@ -8,6 +8,7 @@ ghost use Rattle.format.specs.Chain.{chainOf};
 ghost use Rattle.format.specs.Words.{KeepsBelow};
 ghost use Rattle.format.specs.Answer as answers;
 ghost use Rattle.format.specs.Call.{checkBuckets};
+ghost use Rattle.format.specs.declared.Reading.the-variants.{Short};
 ghost use Rattle.tables.specs.Tables.{TablesOf};
 ghost use Rattle.checking.specs.Buckets.{unnamedOn};
 use format::CheckAnswer;
@@ -51,8 +52,8 @@ pub fn unfound(number: u32, place: usize, opened: usize) -> Found
 fn check_long(cache: &[u8], t: Tables, bucket: u32, passed: usize, most: usize) -> Found
     requires { ⌜ TablesOf (now cache) t ⌝ }
     requires { ⌜ (bucket < buckets (now cache)) × (passed ≤ most) × (most < length (now cache)) ⌝ }
-    requires { ⌜ KeepsBelow (now cache) bucket (passed + 1) ⌝ }
-    ensures { λ r. ⌜ r ≡ unnamedOn (bucketField (now (cache .entry)) bucket) (chainOf (now (cache .entry)) bucket most) ⌝ }
+    requires { ⌜ KeepsBelow Short (now cache) bucket (passed + 1) ⌝ }
+    ensures { λ r. ⌜ r ≡ unnamedOn (bucketField (now (cache .entry)) bucket) (chainOf Short (now (cache .entry)) bucket most) ⌝ }
 {
     let judged = chains::go_on(cache, t, bucket, passed, most);
     let chain = chains::finish(cache, judged, most);
@@ -65,7 +66,7 @@ fn check_long(cache: &[u8], t: Tables, bucket: u32, passed: usize, most: usize) 
 fn check_chain(cache: &[u8], t: Tables, bucket: u32, most: usize) -> Found
     requires { ⌜ TablesOf (now cache) t ⌝ }
     requires { ⌜ (bucket < buckets (now cache)) × (most < length (now cache)) ⌝ }
-    ensures { λ r. ⌜ r ≡ unnamedOn (bucketField (now (cache .entry)) bucket) (chainOf (now (cache .entry)) bucket most) ⌝ }
+    ensures { λ r. ⌜ r ≡ unnamedOn (bucketField (now (cache .entry)) bucket) (chainOf Short (now (cache .entry)) bucket most) ⌝ }
 {
     let stop = chains::at_first(most);
     let chain = chains::walk(cache, t, bucket, stop);
@@ -80,7 +81,7 @@ fn check_chain(cache: &[u8], t: Tables, bucket: u32, most: usize) -> Found
 // The check of all chains, in a cache that keeps the rules 1 to 6, 16 and 17.
 pub fn check_buckets(cache: &[u8], t: Tables) -> CheckAnswer
     requires { ⌜ TablesOf (now cache) t ⌝ }
-    ensures { λ r. ⌜ r ≡ checkBuckets (buckets (now (cache .entry))) (now (cache .entry)) 0 0 ⌝ }
+    ensures { λ r. ⌜ r ≡ checkBuckets Short (buckets (now (cache .entry))) (now (cache .entry)) 0 0 ⌝ }
 {
     let n = t.buckets;
     let most = cache.len() - 11;

@@ -7,6 +7,7 @@ use Rattle.format.specs.Number.{be}
 use Rattle.format.specs.Header.{pathOf}
 use Rattle.format.specs.Record.{nameOf, imagesAt, images}
 use Rattle.format.specs.Words.{Keeps}
+use Rattle.format.specs.declared.Reading.the-variants.{Short}
 use Rattle.tables.specs.declared.Tables.{Tables}
 use Rattle.catalogue.specs.Catalogue.{mostIcons, pathBytes, iconBytes}
 use Rattle.catalogue.specs.Listed.{iconOf}
@@ -17,7 +18,7 @@ use Rattle.export.specs.declared.parts.IconParts.{IconParts}
 -- r is a record of some chain
 pub record Kept (s : List ℕ) (r : ℕ) : Type 0 where
   pub bucket : ℕ
-  pub keeps : Keeps s bucket r
+  pub keeps : Keeps Short s bucket r
 
 -- where the name and the images of record r stand, and how many bytes and images they are
 abbrev pub partsOf : List ℕ → ℕ → IconParts

@@ -7,6 +7,7 @@ ghost use mathlib.Core.Path.{_≡_};
 ghost use Prim.Native.Nat.{_≤_};
 ghost use lib.ListN.{length};
 ghost use Rattle.format.specs.Chain.{allRecords};
+ghost use Rattle.format.specs.declared.Reading.the-variants.{Short};
 ghost use Rattle.catalogue.specs.Call.{catalogueOf, catalogueLeaves};
 ghost use Rattle.gathering.specs.Chains.{Sound};
 use catalogue::WriteAnswer;
@@ -24,7 +25,7 @@ fn list(
     index: &mut [u32],
     catalogue: &mut [u8],
 ) -> WriteAnswer
-    requires { ⌜ Sound (now cache) t × (icons ≡ length (allRecords (now cache))) × (65535 ≤ length (now index)) ⌝ }
+    requires { ⌜ Sound (now cache) t × (icons ≡ length (allRecords Short (now cache))) × (65535 ≤ length (now index)) ⌝ }
     ensures answer { λ r. ⌜ r ≡ catalogueOf (now (cache .entry)) (length (now (catalogue .entry))) ⌝ }
     ensures lent { λ _. ⌜ now (catalogue .exit) ≡ catalogueLeaves (now (cache .entry)) (now (catalogue .entry)) ⌝ }
 {

@@ -13,6 +13,8 @@ use Rattle.format.specs.Record.{nameOf, bucketOf, imagesAt, images, imag
 use Rattle.format.specs.Chain.{chainOf, mostRecords, longestChain, openedOn}
 use Rattle.format.specs.Answer.{accepted, refused, found, unfound, lookedUp, directoryIs, partIs}
 use Rattle.format.specs.declared.Fault.{Fault}
+use Rattle.format.specs.declared.Reading.{Reading}
+use Rattle.format.specs.declared.Reading.the-variants.{Short}
 use Rattle.format.specs.declared.Next.{Next}
 use Rattle.format.specs.declared.Next.the-variants.{End, Broken, Record}
 use Rattle.format.specs.declared.CheckAnswer.{CheckAnswer}
@@ -21,23 +23,25 @@ use Rattle.format.specs.declared.LookupAnswer.{LookupAnswer}
 use Rattle.format.specs.declared.DirectoryAnswer.{DirectoryAnswer}
 use Rattle.format.specs.declared.DirectoryPart.{DirectoryPart}
 
--- the check of n buckets from bucket k on, with o records opened on the chains before
-unfoldable pub checkBuckets : ℕ → List ℕ → ℕ → ℕ → CheckAnswer
-checkBuckets zero s k o = accepted (directories s) o (longestChain s)
-checkBuckets (suc n) s k o =
-    let c = chainOf s k (mostRecords s - o) in
-    let opened = o + openedOn c in
-    elim (c .after) [
-      | End ↦ checkBuckets n s (suc k) opened
-      | Broken x p ↦ refused x p opened
-      | Record r ↦ refused 12 (bucketField s k) opened
-    ]
+-- By a reading ρ.
+module _ (ρ : Reading) where
+  -- the check of n buckets from bucket k on, with o records opened on the chains before
+  unfoldable pub checkBuckets : ℕ → List ℕ → ℕ → ℕ → CheckAnswer
+  checkBuckets zero s k o = accepted (directories s) o (longestChain ρ s)
+  checkBuckets (suc n) s k o =
+      let c = chainOf ρ s k (mostRecords s - o) in
+      let opened = o + openedOn c in
+      elim (c .after) [
+        | End ↦ checkBuckets n s (suc k) opened
+        | Broken x p ↦ refused x p opened
+        | Record r ↦ refused 12 (bucketField s k) opened
+      ]
 
--- the check: 1 to 6, 16 and 17, then the chains of all buckets from 0 up
-unfoldable pub check : List ℕ → CheckAnswer
-check s =
-    let v = tablesFault s in
-    ifKept v (checkBuckets (buckets s) s 0 0) (refused (v .number) (v .place) 0)
+  -- the check: 1 to 6, 16 and 17, then the chains of all buckets from 0 up
+  unfoldable pub check : List ℕ → CheckAnswer
+  check s =
+      let v = tablesFault s in
+      ifKept v (checkBuckets (buckets s) s 0 0) (refused (v .number) (v .place) 0)
 
 -- the first of the records to bear the name, after o opened ones, or a if none does
 unfoldable pub firstNamed : List ℕ → List ℕ → List ℕ → ℕ → Found → Found
@@ -54,7 +58,7 @@ unnamed f (Record r) o = unfound 12 f o
 -- the search along bucket k's chain
 unfoldable pub searchBucket : List ℕ → List ℕ → ℕ → Found
 searchBucket s name k =
-    let c = chainOf s k (mostRecords s) in
+    let c = chainOf Short s k (mostRecords s) in
     firstNamed s name (c .records) 0 (unnamed (bucketField s k) (c .after) (openedOn c))
 
 -- what is judged of a name before it is looked for: 13, then 1 to 5

@@ -22,6 +22,7 @@ use Rattle.format.specs.Farm.{farm, looped, sameCheck, sameLookup, sameD
 use Rattle.format.specs.Examples.Caches.{small, none, withField, header, start, bare, hashLast, twoInHeader, named, pathed, undirected, recordLast}
 use Rattle.format.specs.Examples.Tables.{tableExamples, headerExamples}
 use Rattle.format.specs.Examples.Records.{recordExamples, loopExamples, pathExamples}
+use Rattle.format.specs.declared.Reading.the-variants.{Short}
 pub mod Caches
 pub mod Tables
 pub mod Records
@@ -31,10 +32,10 @@ unfolding all holds tableExamples headerExamples recordExamples loopExamples pat
 examples-hold = tt
 
 -- every buffer of 16,777,217 bytes is refused with 2, and of 16,777,216 with 3 where MAJOR is 2
-too-long : (s : List ℕ) → length s ≡ 16777217 → check s ≡ refused 2 0 0
+too-long : (s : List ℕ) → length s ≡ 16777217 → check Short s ≡ refused 2 0 0
 unfolding check tablesFault headerFault _orElse_
 too-long s e = simp e
 
-longest : (s : List ℕ) → length s ≡ 16777216 → be 2 s majorField ≡ 2 → check s ≡ refused 3 0 0
+longest : (s : List ℕ) → length s ≡ 16777216 → be 2 s majorField ≡ 2 → check Short s ≡ refused 3 0 0
 unfolding check tablesFault headerFault _orElse_
 longest s e v = simp (e, v)

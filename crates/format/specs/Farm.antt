@@ -17,6 +17,7 @@ use Rattle.format.specs.Call.{check, checkBuckets, firstNamed, searchBuc
 use Rattle.format.specs.declared.CheckAnswer.{CheckAnswer}
 use Rattle.format.specs.declared.LookupAnswer.{LookupAnswer}
 use Rattle.format.specs.declared.DirectoryAnswer.{DirectoryAnswer}
+use Rattle.format.specs.declared.Reading.the-variants.{Short}
 
 unfoldable pub farm : List ℕ
 farm =
@@ -53,7 +54,7 @@ unfoldable pub sameDirectory : DirectoryAnswer → DirectoryAnswer → Bool
 sameDirectory a b = eqb (a .number) (b .number) && eqb (a .place) (b .place)
 
 unfoldable pub holds : Example → Bool
-holds (checks s a) = sameCheck (check s) a
+holds (checks s a) = sameCheck (check Short s) a
 holds (looksUp s name words a after) = sameLookup (lookup s name (length words)) a && sameBytes (lookupWords s name words) after
 holds (names s i a path) = sameDirectory (directory s i) a && sameBytes (directoryPath s i) path
 

@@ -19,6 +19,7 @@ pub mod Paths
 pub mod Images
 pub mod Records
 pub mod Rules
+pub mod Notes
 pub mod Directory
 -- of chains and the check
 pub mod Below
@@ -37,3 +38,5 @@ pub mod LookupAnswers
 pub mod LookupNumbers
 pub mod Demand
 pub mod Longest
+-- of the long reading
+pub mod Regions

@@ -12,6 +12,8 @@ pub mod Fault
 pub mod String
 pub mod Segments
 pub mod Header
+pub mod ImageData
+pub mod Notes
 pub mod Record
 pub mod Chain
 pub mod Answer

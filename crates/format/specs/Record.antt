@@ -11,8 +11,11 @@ use Rattle.format.specs.Part.{listInside}
 use Rattle.format.specs.Fault.{unless, _orElse_, firstFault, stepOn}
 use Rattle.format.specs.String.{string, extent, stringFault, spellsName, hash}
 use Rattle.format.specs.Header.{buckets, directories}
+use Rattle.format.specs.Notes.{notesFault}
 use Rattle.format.specs.declared.Fault.{Fault}
 use Rattle.format.specs.declared.Extent.{Extent}
+use Rattle.format.specs.declared.Reading.{Reading}
+use Rattle.format.specs.declared.Reading.the-variants.{Short, Long}
 
 -- the buffer from the name of record r on (NAME_OFFSET), and the name
 abbrev pub namePart : List ℕ → ℕ → List ℕ
@@ -74,8 +77,13 @@ listFault s r =
     unless (validImageList s (imagesAt s r)) 10 (imagesField r)
     orElse imagesFault (images s r) s (entriesAt (imagesAt s r))
 
-unfoldable pub recordFault : List ℕ → ℕ → ℕ → Fault
-recordFault s k r = nameFault s k r orElse listFault s r
+-- and, in the long reading, behind its images
+unfoldable pub recordFault : Reading → List ℕ → ℕ → ℕ → Fault
+recordFault Short s k r = nameFault s k r orElse listFault s r
+recordFault Long s k r =
+    nameFault s k r
+    orElse listFault s r
+    orElse notesFault (images s r) s (entriesAt (imagesAt s r))
 
 -- the record r has a whole name, and it is `name`
 abbrev pub bearsName : List ℕ → ℕ → List ℕ → Bool

@@ -10,6 +10,7 @@ use Rattle.format.specs.Fault.{fault}
 use Rattle.format.specs.Header.{tablesFault, buckets, bucketField}
 use Rattle.format.specs.Record.{recordFault, nameOf}
 use Rattle.format.specs.Chain.{linkFault}
+use Rattle.format.specs.declared.Reading.{Reading}
 
 -- the offset at step n of bucket k's chain: in its field, then in each record's CHAIN_OFFSET
 unfoldable pub link : List ℕ → ℕ → ℕ → ℕ
@@ -39,57 +40,59 @@ pub record OnChain (s : List ℕ) (k n r : ℕ) : Type 0 where
 abbrev pub NeverEnds : List ℕ → ℕ → Type 0
 NeverEnds s k = (n : ℕ) → Goes s k n
 
--- the record r keeps rules 7 to 11 and 17, as a record of bucket k's chain
-pub record Keeps (s : List ℕ) (k r : ℕ) : Type 0 where
-  pub inside : Inside s r
-  pub rules : recordFault s k r .number ≡ 0
-
--- step n names a record that keeps the rules
-abbrev pub KeepsAt : List ℕ → ℕ → ℕ → Type 0
-KeepsAt s k n = (link s k n ≡ endValue → ⊥) × Keeps s k (link s k n)
-
-abbrev pub KeepsBelow : List ℕ → ℕ → ℕ → Type 0
-KeepsBelow s k n = (m : ℕ) → m < n → KeepsAt s k m
-
--- the chain of bucket k reaches the end value after n records, its length, and each keeps the rules
-pub record Holds (s : List ℕ) (k n : ℕ) : Type 0 where
-  pub keeps : KeepsBelow s k n
-  pub ends : link s k n ≡ endValue
-
--- after n records that keep the rules, the chain of bucket k leads to one that breaks rule x at p
-pub record Breaks (s : List ℕ) (k n x p : ℕ) : Type 0 where
-  pub keeps : KeepsBelow s k n
-  pub real : link s k n ≡ endValue → ⊥
-  pub broken : linkFault s k (linkField s k n) (link s k n) ≡ fault x p
-  pub some : 0 < x
-
--- the chain of bucket k never ends, and each record on it keeps the rules
-pub record Turns (s : List ℕ) (k : ℕ) : Type 0 where
-  pub endless : NeverEnds s k
-  pub keeps : (n : ℕ) → Keeps s k (link s k n)
-
 -- none of 1 to 6 stands, nor 16 or 17 on a path
 abbrev pub TablesKept : List ℕ → Type 0
 TablesKept s = tablesFault s .number ≡ 0
 
--- all that is checked before the chain of bucket k held
-pub record HeldBefore (s : List ℕ) (k : ℕ) : Type 0 where
-  pub tables-kept : TablesKept s
-  pub lower : (j : ℕ) → j < k → (n : ℕ) × Holds s j n
+-- By a reading ρ.
+module _ (ρ : Reading) where
+  -- the record r keeps rules 7 to 11 and 17, as a record of bucket k's chain
+  pub record Keeps (s : List ℕ) (k r : ℕ) : Type 0 where
+    pub inside : Inside s r
+    pub rules : recordFault ρ s k r .number ≡ 0
 
--- none of 1 to 6 stands, nor 16 or 17 on a path, and every chain holds
-abbrev pub Accepted : List ℕ → Type 0
-Accepted s = HeldBefore s (buckets s)
+  -- step n names a record that keeps the rules
+  abbrev pub KeepsAt : List ℕ → ℕ → ℕ → Type 0
+  KeepsAt s k n = (link s k n ≡ endValue → ⊥) × Keeps s k (link s k n)
 
--- bucket k is the one at which a loop is reported
-pub record Loops (s : List ℕ) (k : ℕ) : Type 0 where
-  pub bucket : k < buckets s
-  pub held : HeldBefore s k
-  pub turns : Turns s k
+  abbrev pub KeepsBelow : List ℕ → ℕ → ℕ → Type 0
+  KeepsBelow s k n = (m : ℕ) → m < n → KeepsAt s k m
 
--- the chains of the buckets below k hold, and `len` gives their lengths
-abbrev pub Lengths : List ℕ → ℕ → (ℕ → ℕ) → Type 0
-Lengths s k len = (j : ℕ) → j < k → Holds s j (len j)
+  -- the chain of bucket k reaches the end value after n records, its length, and each keeps the rules
+  pub record Holds (s : List ℕ) (k n : ℕ) : Type 0 where
+    pub keeps : KeepsBelow s k n
+    pub ends : link s k n ≡ endValue
+
+  -- after n records that keep the rules, the chain of bucket k leads to one that breaks rule x at p
+  pub record Breaks (s : List ℕ) (k n x p : ℕ) : Type 0 where
+    pub keeps : KeepsBelow s k n
+    pub real : link s k n ≡ endValue → ⊥
+    pub broken : linkFault ρ s k (linkField s k n) (link s k n) ≡ fault x p
+    pub some : 0 < x
+
+  -- the chain of bucket k never ends, and each record on it keeps the rules
+  pub record Turns (s : List ℕ) (k : ℕ) : Type 0 where
+    pub endless : NeverEnds s k
+    pub keeps : (n : ℕ) → Keeps s k (link s k n)
+
+  -- all that is checked before the chain of bucket k held
+  pub record HeldBefore (s : List ℕ) (k : ℕ) : Type 0 where
+    pub tables-kept : TablesKept s
+    pub lower : (j : ℕ) → j < k → (n : ℕ) × Holds s j n
+
+  -- none of 1 to 6 stands, nor 16 or 17 on a path, and every chain holds
+  abbrev pub Accepted : List ℕ → Type 0
+  Accepted s = HeldBefore s (buckets s)
+
+  -- bucket k is the one at which a loop is reported
+  pub record Loops (s : List ℕ) (k : ℕ) : Type 0 where
+    pub bucket : k < buckets s
+    pub held : HeldBefore s k
+    pub turns : Turns s k
+
+  -- the chains of the buckets below k hold, and `len` gives their lengths
+  abbrev pub Lengths : List ℕ → ℕ → (ℕ → ℕ) → Type 0
+  Lengths s k len = (j : ℕ) → j < k → Holds s j (len j)
 
 -- the first n of these lengths added up
 unfoldable pub sum : (ℕ → ℕ) → ℕ → ℕ

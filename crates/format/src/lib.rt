@@ -27,6 +27,14 @@ pub enum Next {
     Record(usize),
 }
 
+// How much of an image is judged.
+pub enum Reading {
+    // Its directory index and its flags.
+    Short,
+    // The same, and all that its IMAGE_DATA_OFFSET leads to.
+    Long,
+}
+
 pub struct CheckAnswer {
     pub number: u32,
     pub place: usize,

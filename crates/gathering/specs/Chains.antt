@@ -6,6 +6,7 @@ use Rattle.format.specs.Record.{nameOf}
 use Rattle.format.specs.Chain.{chainOf, mostRecords}
 use Rattle.format.specs.Words.{Accepted}
 use Rattle.format.specs.declared.Fault.{Fault}
+use Rattle.format.specs.declared.Reading.the-variants.{Short}
 use Rattle.tables.specs.Tables.{TablesOf}
 use Rattle.tables.specs.declared.Tables.{Tables}
 use Rattle.catalogue.specs.Repeats.{Use, useIs, repeatFault}
@@ -13,7 +14,7 @@ use Rattle.catalogue.specs.Repeats.{Use, useIs, repeatFault}
 -- the cache is accepted, and t is what it says of its tables
 pub record Sound (s : List ℕ) (t : Tables) : Type 0 where
   pub tables : TablesOf s t
-  pub accepted : Accepted s
+  pub accepted : Accepted Short s
 
 -- the names of records, each refused at its NAME_OFFSET
 abbrev pub usesOf : List ℕ → List ℕ → List Use
@@ -21,4 +22,4 @@ usesOf s rs = map (λ r. useIs (nameOf s r) (nameField r)) rs
 
 -- 20 at the first name on bucket k's chain that a record before it on the chain has
 abbrev pub chainRepeat : List ℕ → ℕ → Fault
-chainRepeat s k = repeatFault [] (usesOf s (chainOf s k (mostRecords s) .records))
+chainRepeat s k = repeatFault [] (usesOf s (chainOf Short s k (mostRecords s) .records))

@@ -4,6 +4,7 @@ ghost use Prim.Native.Nat.{ℕ, suc, _≤_, _<_};
 ghost use lib.ListN.{length};
 ghost use Rattle.format.specs.Header.{buckets};
 ghost use Rattle.format.specs.Chain.{recordsBelow, allRecords};
+ghost use Rattle.format.specs.declared.Reading.the-variants.{Short};
 ghost use Rattle.gathering.specs.Chains.{Sound};
 ghost use Rattle.gathering.specs.Order.{Gathered, Ordered};
 use bigendian::u32_at;
@@ -27,9 +28,9 @@ fn take_in(cache: &[u8], index: &mut [u32], n: usize, record: u32) -> usize
 // index has then. `step` counts those of this chain, which ends.
 fn take_chain(cache: &[u8], t: Tables, bucket: u32, index: &mut [u32], n: usize) -> usize
     requires { ⌜ Sound (now cache) t × (bucket < buckets (now cache)) ⌝ }
-    requires { ⌜ Gathered (now index) n (recordsBelow (now cache) bucket) ⌝ }
-    requires { ⌜ length (recordsBelow (now cache) (suc bucket)) ≤ length (now index) ⌝ }
-    ensures { λ r. ⌜ Gathered (now (index .exit)) r (recordsBelow (now (cache .entry)) (suc bucket)) ⌝ }
+    requires { ⌜ Gathered (now index) n (recordsBelow Short (now cache) bucket) ⌝ }
+    requires { ⌜ length (recordsBelow Short (now cache) (suc bucket)) ≤ length (now index) ⌝ }
+    ensures { λ r. ⌜ Gathered (now (index .exit)) r (recordsBelow Short (now (cache .entry)) (suc bucket)) ⌝ }
 {
     let mut field = bucket_field(t, bucket);
     let mut count = n;
@@ -47,7 +48,7 @@ fn take_chain(cache: &[u8], t: Tables, bucket: u32, index: &mut [u32], n: usize)
 
 // Makes the index of all records: how many they are.
 pub fn records(cache: &[u8], t: Tables, index: &mut [u32]) -> usize
-    requires { ⌜ Sound (now cache) t × (length (allRecords (now cache)) ≤ length (now index)) ⌝ }
+    requires { ⌜ Sound (now cache) t × (length (allRecords Short (now cache)) ≤ length (now index)) ⌝ }
     ensures { λ r. ⌜ Ordered (now (cache .entry)) (now (index .exit)) r ⌝ }
 {
     let buckets = t.buckets;

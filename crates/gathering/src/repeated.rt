@@ -6,6 +6,7 @@ ghost use Prim.Native.Nat.{_<_};
 ghost use lib.ListN.{length};
 ghost use Rattle.format.specs.Header.{buckets};
 ghost use Rattle.format.specs.Words.{Holds};
+ghost use Rattle.format.specs.declared.Reading.the-variants.{Short};
 ghost use Rattle.catalogue.specs.Repeats.{repeatFault};
 ghost use Rattle.catalogue.specs.Listed.{recordUses};
 ghost use Rattle.gathering.specs.Chains.{Sound, chainRepeat};
@@ -18,7 +19,7 @@ use tables::bucket_field;
 // How many records the chain of `bucket` has.
 fn count(cache: &[u8], t: Tables, bucket: u32) -> usize
     requires { ⌜ Sound (now cache) t × (bucket < buckets (now cache)) ⌝ }
-    ensures { λ r. ⌜ Holds (now (cache .entry)) bucket r ⌝ }
+    ensures { λ r. ⌜ Holds Short (now (cache .entry)) bucket r ⌝ }
 {
     let mut field = bucket_field(t, bucket);
     let mut n = 0;

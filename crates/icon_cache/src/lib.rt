@@ -8,6 +8,7 @@ ghost use Rattle.format.specs.Answer.{partIs};
 ghost use Rattle.format.specs.Call.{foundAnswer, answerWords, lookupWords, directoryPart, directoryPath};
 ghost use Rattle.format.specs.Call as calls;
 ghost use Rattle.format.specs.Demand.{CheckDemand, LookupKept, LongestDemand, OpensWithin};
+ghost use Rattle.format.specs.declared.Reading.the-variants.{Short};
 use bigendian::u32_at;
 use checking::check_buckets;
 use checking::refused;
@@ -21,9 +22,9 @@ use format::LookupAnswer;
 
 // Checks the whole cache: accepted with its counts, or the first broken rule with its place.
 pub fn check(cache: &[u8]) -> CheckAnswer
-    ensures answer { λ r. ⌜ r ≡ calls.check (now (cache .entry)) ⌝ }
-    ensures demand { λ r. ⌜ CheckDemand (now (cache .entry)) r ⌝ }
-    ensures longest { λ r. ⌜ LongestDemand (now (cache .entry)) r ⌝ }
+    ensures answer { λ r. ⌜ r ≡ calls.check Short (now (cache .entry)) ⌝ }
+    ensures demand { λ r. ⌜ CheckDemand Short (now (cache .entry)) r ⌝ }
+    ensures longest { λ r. ⌜ LongestDemand Short (now (cache .entry)) r ⌝ }
 {
     let header = tables::header(cache);
     if header.number != 0 {
@@ -87,7 +88,7 @@ fn with_images(cache: &[u8], record: usize, opened: usize, words: &mut [u32]) ->
 pub fn lookup(cache: &[u8], name: &[u8], words: &mut [u32]) -> LookupAnswer
     ensures answer { λ r. ⌜ r ≡ calls.lookup (now (cache .entry)) (now (name .entry)) (length (now (words .entry))) ⌝ }
     ensures lent { λ r. ⌜ now (words .exit) ≡ lookupWords (now (cache .entry)) (now (name .entry)) (now (words .entry)) ⌝ }
-    ensures demand { λ r. ⌜ LookupKept (now (cache .entry)) (now (name .entry)) r ⌝ }
+    ensures demand { λ r. ⌜ LookupKept Short (now (cache .entry)) (now (name .entry)) r ⌝ }
     ensures longest { λ r. ⌜ OpensWithin (now (cache .entry)) r ⌝ }
 {
     let found = find(cache, name);

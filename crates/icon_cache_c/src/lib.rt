@@ -6,6 +6,7 @@ ghost use mathlib.Core.Path.{_≡_};
 ghost use lib.ListN.{length};
 ghost use Rattle.format.specs.Answer.{checked, lookedUp, directoryIs, partIs};
 ghost use Rattle.format.specs.Call.{check, lookup, lookupWords, directory, directoryPart};
+ghost use Rattle.format.specs.declared.Reading.the-variants.{Short};
 ghost use Rattle.pick.specs.Pick.{pickIs, pick};
 ghost use Rattle.listing.specs.Listing.{position, step, stepIs};
 ghost use Rattle.flags.specs.Flags.{flagsIs, flagsIn, flagsOut};
@@ -21,7 +22,7 @@ pub extern "C" fn icon_cache_check(
     opened: &mut usize,
     longest: &mut usize,
 ) -> u32
-    ensures { λ r. ⌜ checked r (now (place .exit)) (now (directories .exit)) (now (icons .exit)) (now (opened .exit)) (now (longest .exit)) ≡ check (now (cache .entry)) ⌝ }
+    ensures { λ r. ⌜ checked r (now (place .exit)) (now (directories .exit)) (now (icons .exit)) (now (opened .exit)) (now (longest .exit)) ≡ check Short (now (cache .entry)) ⌝ }
 {
     let answer = icon_cache::check(cache);
     *place = answer.place;

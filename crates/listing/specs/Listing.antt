@@ -9,6 +9,7 @@ use Rattle.format.specs.Header.{headerFault, buckets}
 use Rattle.format.specs.Chain.{chainOf, mostRecords}
 use Rattle.format.specs.declared.Fault.{Fault}
 use Rattle.format.specs.declared.Next.the-variants.{End, Broken, Record}
+use Rattle.format.specs.declared.Reading.the-variants.{Short}
 use Rattle.listing.specs.declared.Position.{Position}
 use Rattle.listing.specs.declared.Step.{Step}
 
@@ -42,7 +43,7 @@ positionFault s q = headerFault s orElse unless (validPosition s q) 26 0
 unfoldable pub onward : ℕ → List ℕ → Position → ℕ → ℕ → Step
 onward zero s q k c = stays 28 0 q
 onward (suc n) s q k c =
-    elim (chainOf s k c .after) [
+    elim (chainOf Short s k c .after) [
       | End ↦ onward n s q (suc k) 0
       | Broken x p ↦ stays x p q
       | Record r ↦ handsBack r (position k (suc c))

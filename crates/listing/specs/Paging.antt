@@ -11,23 +11,24 @@ use Rattle.format.specs.Call.{check}
 use Rattle.format.specs.Words.{link, KeepsBelow, Holds, Breaks, OnChain, Turns, Accepted}
 use Rattle.listing.specs.Listing.{position, start, handsBack, stays, positionFault, step}
 use Rattle.format.specs.declared.Next.the-variants.{End, Broken, Record}
+use Rattle.format.specs.declared.Reading.the-variants.{Short}
 use Rattle.listing.specs.declared.Position.{Position}
 use Rattle.listing.specs.declared.Step.{Step}
 
 -- where the chain of a position has no more records, a step goes on at the next bucket
 pub data GoesOn (s : List ℕ) : Position → Position → Type 0 where
   here : {q : Position} → GoesOn s q q
-  on : {q there : Position} {n : ℕ} → Holds s (q .bucket) n → n ≤ q .count → GoesOn s (position (suc (q .bucket)) 0) there → GoesOn s q there
+  on : {q there : Position} {n : ℕ} → Holds Short s (q .bucket) n → n ≤ q .count → GoesOn s (position (suc (q .bucket)) 0) there → GoesOn s q there
 
 -- the chain of a position has a record more than are passed, and all of them keep the rules
 abbrev pub HasRecord : List ℕ → Position → Type 0
-HasRecord s there = (there .bucket < buckets s) × KeepsBelow s (there .bucket) (suc (there .count))
+HasRecord s there = (there .bucket < buckets s) × KeepsBelow Short s (there .bucket) (suc (there .count))
 
 -- The answer from a position that is valid, by where the step goes on to.
 pub record RecordAnswers (s : List ℕ) (q : Position) : Type 0 where
   pub gives : {there : Position} → GoesOn s q there → HasRecord s there
       → step s q ≡ handsBack (link s (there .bucket) (there .count)) (position (there .bucket) (suc (there .count)))
-  pub refuses-record : {there : Position} {n x p : ℕ} → GoesOn s q there → there .bucket < buckets s → n ≤ there .count → Breaks s (there .bucket) n x p
+  pub refuses-record : {there : Position} {n x p : ℕ} → GoesOn s q there → there .bucket < buckets s → n ≤ there .count → Breaks Short s (there .bucket) n x p
       → step s q ≡ stays x p q
   pub done : {there : Position} → GoesOn s q there → there .bucket ≡ buckets s → step s q ≡ stays 28 0 q
 
@@ -82,7 +83,7 @@ AtTheLargestCount s k = let a = step s (largest s k) in (a .number ≡ 0) × (a 
 unfoldable pub onwardOpens : ℕ → List ℕ → ℕ → ℕ → ℕ
 onwardOpens zero s k c = 0
 onwardOpens (suc n) s k c =
-    openedOn (chainOf s k c) + elim (chainOf s k c .after) [
+    openedOn (chainOf Short s k c) + elim (chainOf Short s k c .after) [
       | End ↦ onwardOpens n s (suc k) 0
       | Broken x p ↦ 0
       | Record r ↦ 0
@@ -96,9 +97,9 @@ stepOpens s q = onwardOpens (buckets s - q .bucket) s (q .bucket) (q .count)
 -- each record on it keeping the rules, exactly where the largest count still gives a record of it;
 -- and a step opens at most one record more than its count.
 pub record Pages (s : List ℕ) : Type 0 where
-  pub each-once : Accepted s → EachOnce s (allRecords s)
-  pub as-many : Accepted s → length (allRecords s) ≡ check s .icons
-  pub lists : Accepted s → Lists s (allRecords s)
+  pub each-once : Accepted Short s → EachOnce s (allRecords Short s)
+  pub as-many : Accepted Short s → length (allRecords Short s) ≡ check Short s .icons
+  pub lists : Accepted Short s → Lists s (allRecords Short s)
   pub ends : (q : Position) → (m : ℕ) × (m ≤ mostHanded s) × Ends s q m
-  pub endless : headerFault s .number ≡ 0 → (k : ℕ) → k < buckets s → (AtTheLargestCount s k ↔ Turns s k)
+  pub endless : headerFault s .number ≡ 0 → (k : ℕ) → k < buckets s → (AtTheLargestCount s k ↔ Turns Short s k)
   pub opens : (q : Position) → stepOpens s q ≤ suc (q .count)

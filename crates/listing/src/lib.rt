@@ -7,6 +7,7 @@ ghost use Rattle.format.specs.Header.{buckets};
 ghost use Rattle.format.specs.Chain.{chainOf};
 ghost use Rattle.format.specs.Words.{KeepsBelow};
 ghost use Rattle.format.specs.declared.Next.the-variants.{Record};
+ghost use Rattle.format.specs.declared.Reading.the-variants.{Short};
 ghost use Rattle.tables.specs.Tables.{TablesOf};
 ghost use Rattle.listing.specs.Listing.{position, handsBack, stays, step};
 ghost use Rattle.listing.specs.Reach.{reached};
@@ -75,8 +76,8 @@ impl Position {
     fn go_further(self, cache: &[u8], t: Tables, bucket: u32, walked: usize) -> Step
         requires { ⌜ TablesOf (now cache) t ⌝ }
         requires { ⌜ (bucket < buckets (now cache)) × (walked ≤ self .count) × (self .count < length (now cache)) ⌝ }
-        requires { ⌜ KeepsBelow (now cache) bucket (walked + 1) ⌝ }
-        ensures { λ r. ⌜ r ≡ reached self bucket (self .count) (chainOf (now (cache .entry)) bucket (self .count) .after) ⌝ }
+        requires { ⌜ KeepsBelow Short (now cache) bucket (walked + 1) ⌝ }
+        ensures { λ r. ⌜ r ≡ reached self bucket (self .count) (chainOf Short (now (cache .entry)) bucket (self .count) .after) ⌝ }
     {
         let passed = self.count;
         let judged = chains::go_on(cache, t, bucket, walked, passed);
@@ -102,8 +103,8 @@ impl Position {
         requires { ⌜ TablesOf (now cache) t ⌝ }
         requires { ⌜ (bucket < buckets (now cache)) × (walked ≤ passed) × (passed < length (now cache)) ⌝ }
         requires { ⌜ (walked < passed → passed ≡ self .count) ⌝ }
-        requires { ⌜ chainOf (now cache) bucket walked .after ≡ Record «record» ⌝ }
-        ensures { λ r. ⌜ r ≡ reached self bucket passed (chainOf (now (cache .entry)) bucket passed .after) ⌝ }
+        requires { ⌜ chainOf Short (now cache) bucket walked .after ≡ Record «record» ⌝ }
+        ensures { λ r. ⌜ r ≡ reached self bucket passed (chainOf Short (now (cache .entry)) bucket passed .after) ⌝ }
     {
         if walked < passed {
             self.go_further(cache, t, bucket, walked)

@@ -10,6 +10,7 @@ ghost use Rattle.format.specs.Fault.{noFault};
 ghost use Rattle.format.specs.String.{allowed};
 ghost use Rattle.format.specs.Header.{directories};
 ghost use Rattle.format.specs.Record.{namePart, bearsName, validImageList, validImage, imagesFault, nameFault, listFault, recordFault, firstWord, imageWords};
+ghost use Rattle.format.specs.declared.Reading.the-variants.{Short};
 ghost use Rattle.tables.specs.Tables.{TablesOf};
 ghost use Rattle.records.specs.ValidWords.{validWords};
 use bigendian::u16_at;
@@ -170,7 +171,7 @@ pub fn judge(cache: &[u8], t: Tables, bucket: u32, record: usize, known: bool) -
     requires { ⌜ TablesOf (now cache) t ⌝ }
     requires { ⌜ «record» + 12 ≤ length (now cache) ⌝ }
     requires { ⌜ (known ≡ true → nameFault (now cache) bucket «record» ≡ noFault) ⌝ }
-    ensures { λ r. ⌜ r ≡ recordFault (now (cache .entry)) bucket «record» ⌝ }
+    ensures { λ r. ⌜ r ≡ recordFault Short (now (cache .entry)) bucket «record» ⌝ }
 {
     let fault = judge_name(cache, t, bucket, record, known);
     if fault.number != 0 {

@@ -13,13 +13,14 @@ use Rattle.format.specs.Words.{link, NoneBelow}
 use Rattle.format.specs.Laws.Below.{below-suc}
 use Rattle.format.specs.Laws.Search.{search-finds}
 use Rattle.format.specs.declared.Next.the-variants.{Record}
+use Rattle.format.specs.declared.Reading.the-variants.{Short}
 use Rattle.chains.specs.Walk.{Stands}
 use Rattle.chains.proofs.Way.{leads-link, leads-keeps, leads-on}
 use Rattle.search.specs.Seek.{SeeksTo}
 use Rattle.search.specs.declared.Sought.{Sought}
 
 module _ {s name : List ℕ} {k stop : ℕ} {a : Sought} (w : SeeksTo s name k stop a) (small : length s ≤ 16777216) {r : ℕ} (q : a .next ≡ Record r) where
-  led : follow s k (w .field) ≡ Record r
+  led : follow Short s k (w .field) ≡ Record r
   led = sym (w .next) ∙ q
 
   at : r ≡ link s k (w .passed)

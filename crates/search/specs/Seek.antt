@@ -9,6 +9,7 @@ use Rattle.format.specs.Chain.{follow, opens}
 use Rattle.format.specs.Words.{NoneBelow}
 use Rattle.format.specs.declared.Next.{Next}
 use Rattle.format.specs.declared.Next.the-variants.{Record}
+use Rattle.format.specs.declared.Reading.the-variants.{Short}
 use Rattle.chains.specs.Walk.{Stands}
 use Rattle.search.specs.declared.Seen.{Seen}
 use Rattle.search.specs.declared.Sought.{Sought}
@@ -18,7 +19,7 @@ seen next bears = record { next = next; bears = bears }
 
 -- what the field f leads to; where that is a record, whether it bears the name
 pub record Seeks (s name : List ℕ) (k f : ℕ) (a : Seen) : Type 0 where
-  pub next : a .next ≡ follow s k f
+  pub next : a .next ≡ follow Short s k f
   pub bears : (r : ℕ) → a .next ≡ Record r → a .bears ≡ sameBytes (nameOf s r) name
 
 -- a search past at most `stop` records: where it stands, with none that bears the name behind it,
@@ -29,7 +30,7 @@ pub record SeeksTo (s name : List ℕ) (k stop : ℕ) (a : Sought) : Type 0 wher
   pub stands : Stands s k field passed
   pub few : passed ≤ stop
   pub none : NoneBelow s name k passed
-  pub next : a .next ≡ follow s k field
+  pub next : a .next ≡ follow Short s k field
   pub opened : a .opened ≡ passed + opens (a .next)
   pub met : (r : ℕ) → a .next ≡ Record r → a .bears ≡ true → nameOf s r ≡ name
   pub unmet : (r : ℕ) → a .next ≡ Record r → a .bears ≡ false → (nameOf s r ≡ name → ⊥) × (passed ≡ stop)

@@ -14,6 +14,7 @@ use Rattle.format.specs.Words.{Accepted}
 use Rattle.format.specs.declared.Fault.{Fault}
 use Rattle.format.specs.Laws.Demand.{demand3}
 use Rattle.format.specs.Laws.Faults.{orElse-none, orElse-next, kept-passes, same-number, unless-none, unless-kept, broken-takes}
+use Rattle.format.specs.declared.Reading.the-variants.{Short}
 use Rattle.catalogue.specs.Fields.{catalogueIn}
 use Rattle.catalogue.specs.Repeats.{repeatFault, catalogueFault}
 use Rattle.catalogue.specs.Written.{writtenSize}
@@ -57,9 +58,9 @@ unrefused c b room e =
 -- and one of the reader
 pub record UnrefusedListing (s : List ℕ) (room : ℕ) : Type 0 where
   pub none : listingFault s room ≡ noFault
-  pub accepted : Accepted s
+  pub accepted : Accepted Short s
   pub apart : repeatFault [] (recordUses s) .number ≡ 0
-  pub few : length (allRecords s) ≤ 65535
+  pub few : length (allRecords Short s) ≤ 65535
 
 pub unrefused-listing : (s : List ℕ) (room : ℕ) → listingFault s room .number ≡ 0 → UnrefusedListing s room
 unfolding listingFault
@@ -70,7 +71,7 @@ unrefused-listing s room e =
     let fits = leb (length (listedBytes s)) room in
     record {
       none = orElse-last _ _ e ∙ orElse-last _ _ (first .1) ∙ orElse-last _ _ (second .1) ∙ unless-kept fits 19 0 (unless-none fits 18 0 (third .1));
-      accepted = demand3 s .checks .accepted .0 (first .0);
+      accepted = demand3 Short s .checks .accepted .0 (first .0);
       apart = second .0;
       few = leb-true _ _ (unless-none _ _ _ (third .0));
     }

@@ -11,6 +11,7 @@ use lib.ListN.{length}
 use Rattle.format.specs.Number.{be}
 use Rattle.format.specs.Words.{link, KeepsBelow, Holds}
 use Rattle.format.specs.Laws.Below.{below-suc}
+use Rattle.format.specs.declared.Reading.the-variants.{Short}
 use Rattle.catalogue.specs.Catalogue.{Catalogue, Good}
 use Rattle.catalogue.specs.LaidOut.{iconBucket, firstIn, Places, Lays}
 use Rattle.catalogue.specs.Serves.{countIn}
@@ -26,7 +27,7 @@ pub record IconAtStep (s : List ℕ) (d : Catalogue) (b : ℕ) (q : Places) (k m
 -- the chain of bucket k ends after n records, which are those of the icons of bucket k
 pub record ChainOf (s : List ℕ) (d : Catalogue) (b : ℕ) (q : Places) (k : ℕ) : Type 0 where
   pub steps : ℕ
-  pub holds : Holds s k steps
+  pub holds : Holds Short s k steps
   pub counted : steps ≡ countIn (iconBucket d b) k 0 (length (d .icons))
   pub icon-at : (m : ℕ) → m < steps → (i : ℕ) × IconAtStep s d b q k m i
   pub step-of : (i : ℕ) → i < length (d .icons) → iconBucket d b i ≡ k → (m : ℕ) × (m < steps) × (link s k m ≡ q .record-at i)
@@ -35,7 +36,7 @@ pub record ChainOf (s : List ℕ) (d : Catalogue) (b : ℕ) (q : Places) (k : �
 -- at
 record Passed (s : List ℕ) (d : Catalogue) (b : ℕ) (q : Places) (k n j : ℕ) : Type 0 where
   next : link s k n ≡ firstIn (iconBucket d b) (q .record-at) k j (length (d .icons) - j)
-  keeps : KeepsBelow s k n
+  keeps : KeepsBelow Short s k n
   counted : n + countIn (iconBucket d b) k j (length (d .icons) - j) ≡ countIn (iconBucket d b) k 0 (length (d .icons))
   icon-at : (m : ℕ) → m < n → (i : ℕ) × IconAtStep s d b q k m i
   step-of : (i : ℕ) → i < j → iconBucket d b i ≡ k → (m : ℕ) × (m < n) × (link s k m ≡ q .record-at i)

@@ -16,6 +16,7 @@ use Rattle.format.specs.Laws.Extents.{string-whole}
 use Rattle.format.specs.Laws.Texts.{whole-text, whole-allowed}
 use Rattle.format.specs.Laws.Rules.{record-valid}
 use Rattle.format.specs.Segments.{allowedPath}
+use Rattle.format.specs.declared.Reading.the-variants.{Short}
 use Rattle.catalogue.specs.Row.{row}
 use Rattle.catalogue.specs.Catalogue.{Each, GoodImage, GoodIcon}
 use Rattle.catalogue.specs.Fields.{AreBytes, imageAt, imageEnd, imagesFrom}
@@ -43,9 +44,9 @@ module _ (s : List ℕ) (small : AreBytes s) where
       let right = unless-none _ _ _ (both .0) in
       ((right, number-fits s small 4 (p + 4) (omega arith)), images-good m (p + 8) (omega arith) (both .1))
 
-  pub icon-allowed : {k r : ℕ} → Keeps s k r → GoodIcon (directories s) (iconOf s r)
+  pub icon-allowed : {k r : ℕ} → Keeps Short s k r → GoodIcon (directories s) (iconOf s r)
   icon-allowed {k} {r} h =
-      let valid = record-valid s k r (h .rules) in
+      let valid = record-valid Short s k r (h .rules) in
       record {
         named = whole-allowed (namePart s r) (valid .named);
         few = rw (row-length (imageAt s) imageEnd (images s r) (imagesAt s r + 4)) (valid .few);

@@ -19,6 +19,7 @@ use Rattle.format.specs.Laws.Texts.{TextWithin, allowed-tells}
 use Rattle.format.specs.Laws.Paths.{string-first, path-kept}
 use Rattle.format.specs.Laws.Records.{name-home, record-named, list-kept}
 use Rattle.format.specs.Laws.Rules.{tables-paths}
+use Rattle.format.specs.declared.Reading.the-variants.{Short}
 use Rattle.catalogue.specs.Catalogue.{Catalogue, Each, GoodImage, GoodIcon, Good, iconIs}
 use Rattle.catalogue.specs.Fields.{imagesFrom}
 use Rattle.catalogue.specs.LaidOut.{nthPath, nthIcon, iconBucket, Places, Lays}
@@ -95,7 +96,7 @@ module _ {s : List ℕ} {d : Catalogue} {b : ℕ} {q : Places} (good : Good d) (
         let few : images s r ≤ 1024 = rw count-stands (icon-good .few) in
         also (list-inside s _ _ ends) (le-leb _ _ few)
 
-    pub record-keeps : Keeps s (iconBucket d b i) r
+    pub record-keeps : Keeps Short s (iconBucket d b i) r
     record-keeps =
         let k = iconBucket d b i in
         let whole = rw (← f .name-field i l) at (string-whole text (lays .names i l)) in

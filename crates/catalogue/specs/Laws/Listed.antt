@@ -13,6 +13,7 @@ use Rattle.format.specs.Chain.{allRecords}
 use Rattle.format.specs.Words.{OnChain}
 use Rattle.format.specs.Laws.Links.{on-chain, chain-on}
 use Rattle.format.specs.Laws.Order.{records-length}
+use Rattle.format.specs.declared.Reading.the-variants.{Short}
 use Rattle.listing.specs.Laws.Pages.{pages}
 use Rattle.catalogue.specs.Catalogue.{Catalogue, Good, iconIs, catalogueIs}
 use Rattle.catalogue.specs.LaidOut.{nthIcon, iconBucket, Places, Lays}
@@ -28,7 +29,7 @@ module _ {s : List ℕ} {d : Catalogue} {b : ℕ} {q : Places} (good : Good d) (
   f = laid good lays
 
   -- the records of the cache are those of the icons
-  pub record-held : (i : ℕ) → i < length (d .icons) → has (allRecords s) (q .record-at i) ≡ true
+  pub record-held : (i : ℕ) → i < length (d .icons) → has (allRecords Short s) (q .record-at i) ≡ true
   record-held i l =
       let k = iconBucket d b i in
       let below : k < b = mod-lt (hash (nthIcon d i .name)) some in
@@ -36,7 +37,7 @@ module _ {s : List ℕ} {d : Catalogue} {b : ℕ} {q : Places} (good : Good d) (
       let (m, g, e) = w .step-of i l refl in
       let on : OnChain s k m (q .record-at i) = rw e at (chain-on (w .holds) g) in
       let (n, u, h) = pages s .each-once (lays-accepted good lays some) .each (q .record-at i) .1 (k, m, omega (arith, f .buckets-are), on) in
-      some-has (allRecords s) (q .record-at i) n u h
+      some-has (allRecords Short s) (q .record-at i) n u h
 
   pub record-of-icon : (k m r : ℕ) → k < buckets s → OnChain s k m r → (i : ℕ) × (i < length (d .icons)) × (r ≡ q .record-at i)
   record-of-icon k m r l on =
@@ -45,19 +46,19 @@ module _ {s : List ℕ} {d : Catalogue} {b : ℕ} {q : Places} (good : Good d) (
       let (i, h) = w .icon-at m (on-chain (w .holds) on .0) in
       (i, h .below, sym (on .named) ∙ h .named)
 
-  only-records : (r : ℕ) → has (allRecords s) r ≡ true → (i : ℕ) × (i < length (d .icons)) × (r ≡ q .record-at i)
+  only-records : (r : ℕ) → has (allRecords Short s) r ≡ true → (i : ℕ) × (i < length (d .icons)) × (r ≡ q .record-at i)
   only-records r e =
-      let (k, m, l, on) = pages s .each-once (lays-accepted good lays some) .each r .0 (has-some (allRecords s) r e) in
+      let (k, m, l, on) = pages s .each-once (lays-accepted good lays some) .each r .0 (has-some (allRecords Short s) r e) in
       record-of-icon k m r l on
 
   -- as many as there are icons
-  pub order-length : length (allRecords s) ≡ length (d .icons)
+  pub order-length : length (allRecords Short s) ≡ length (d .icons)
   order-length = records-length (counts good lays some) (buckets s) (counts-are good lays some) ∙ all-counted good lays some
 
   module _ (rises : Rises (q .record-at) (length (d .icons))) where
     rising-records : offsetOrder s ≡ firsts (q .record-at) (length (d .icons))
     rising-records =
-        rising-are (allRecords s) (q .record-at) (length (d .icons)) rises record-held only-records (length s) (λ i l. omega (arith, f .record-inside i l))
+        rising-are (allRecords Short s) (q .record-at) (length (d .icons)) rises record-held only-records (length s) (λ i l. omega (arith, f .record-inside i l))
 
     icon-back : (i : ℕ) → i < length (d .icons) → iconOf s (q .record-at i) ≡ nthIcon d i
     icon-back i l = λ j. iconIs (name-stands good lays some l j) (images-stand good lays some l j)

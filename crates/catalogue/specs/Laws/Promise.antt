@@ -9,6 +9,7 @@ use Rattle.format.specs.Fault.{noFault, _orElse_}
 use Rattle.format.specs.Chain.{allRecords}
 use Rattle.format.specs.declared.CheckAnswer.{CheckAnswer}
 use Rattle.format.specs.Laws.Faults.{orElse-next, kept-passes, same-number, unless-kept}
+use Rattle.format.specs.declared.Reading.the-variants.{Short}
 use Rattle.catalogue.specs.Catalogue.{Catalogue, Good, catalogueBytes}
 use Rattle.catalogue.specs.Fields.{catalogueIn}
 use Rattle.catalogue.specs.LaidOut.{Lays}
@@ -43,7 +44,7 @@ module _ (d : Catalogue) (b : ℕ) (good : Good d) (few : length (d .icons) ≤ 
   unfolding listingFault
   listing-keeps room l =
       let accepted = ap (λ (a : CheckAnswer). a .number) (serves good lays some .accepts) in
-      let counted : length (allRecords (written d b)) ≤ 65535 = rw (order-length good lays some) few in
+      let counted : length (allRecords Short (written d b)) ≤ 65535 = rw (order-length good lays some) few in
       orElse-next _ _ accepted
       ∙ orElse-next _ _ (same-number (no-name-twice good lays some))
       ∙ kept-passes _ 21 0 _ (le-leb _ _ counted)

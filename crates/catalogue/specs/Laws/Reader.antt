@@ -17,6 +17,7 @@ use Rattle.format.specs.Laws.Links.{on-chain}
 use Rattle.listing.specs.Paging.{EachOnce}
 use Rattle.listing.specs.Laws.Pages.{pages}
 use Rattle.format.specs.Segments.{allowedPath}
+use Rattle.format.specs.declared.Reading.the-variants.{Short}
 use Rattle.catalogue.specs.Catalogue.{Icon, Each, GoodIcon, Good, NoneTwice}
 use Rattle.catalogue.specs.Fields.{AreBytes}
 use Rattle.catalogue.specs.Repeats.{repeatFault}
@@ -29,24 +30,24 @@ use Rattle.catalogue.specs.Laws.Names.{map-at, uses-are}
 use Rattle.catalogue.specs.Laws.Allowed.{each-at}
 
 -- the records by rising offset are those of the check's order
-module _ (s : List ℕ) (acc : Accepted s) where
+module _ (s : List ℕ) (acc : Accepted Short s) where
   abbrev Held : ℕ → Type 0
-  Held r = has (allRecords s) r ≡ true
+  Held r = has (allRecords Short s) r ≡ true
 
   each-held : Each Held (offsetOrder s)
-  each-held = each-rising (allRecords s) Held (length s) (λ r l h. h)
+  each-held = each-rising (allRecords Short s) Held (length s) (λ r l h. h)
 
   held-at : (i : ℕ) → i < length (offsetOrder s) → Held (getD (offsetOrder s) i 0)
   held-at i l = each-at Held (offsetOrder s) 0 i each-held l
 
   on-some-chain : (r : ℕ) → Held r → (k m : ℕ) × (k < buckets s) × OnChain s k m r
-  on-some-chain r e = pages s .each-once acc .each r .0 (has-some (allRecords s) r e)
+  on-some-chain r e = pages s .each-once acc .each r .0 (has-some (allRecords Short s) r e)
 
-  held-keeps : (r : ℕ) → Held r → (k : ℕ) × Keeps s k r
+  held-keeps : (r : ℕ) → Held r → (k : ℕ) × Keeps Short s k r
   held-keeps r e = let (k, m, l, on) = on-some-chain r e in (k, on-chain (acc .lower k l .1) on .1)
 
   pub order-rises : (i j : ℕ) → i < j → j < length (offsetOrder s) → getD (offsetOrder s) i 0 < getD (offsetOrder s) j 0
-  order-rises = rising-rises (allRecords s) (length s)
+  order-rises = rising-rises (allRecords Short s) (length s)
 
   pub order-each-once : EachOnce s (offsetOrder s)
   order-each-once = record {
@@ -55,7 +56,7 @@ module _ (s : List ℕ) (acc : Accepted s) where
       λ (k, m, l, on).
           let (n, a, e) = pages s .each-once acc .each r .1 (k, m, l, on) in
           let inside = on-chain (acc .lower k l .1) on .1 .inside in
-          rising-all (allRecords s) (length s) r (omega arith) (some-has (allRecords s) r n a e),
+          rising-all (allRecords Short s) (length s) r (omega arith) (some-has (allRecords Short s) r n a e),
     );
     once = λ m n l g e.
         let before : m < n → ⊥ = λ h. omega (arith, order-rises m n h g) in
@@ -63,7 +64,7 @@ module _ (s : List ℕ) (acc : Accepted s) where
         omega arith;
   }
 
-module _ (s : List ℕ) (acc : Accepted s) (small : AreBytes s) (apart : repeatFault [] (recordUses s) .number ≡ 0) where
+module _ (s : List ℕ) (acc : Accepted Short s) (small : AreBytes s) (apart : repeatFault [] (recordUses s) .number ≡ 0) where
   listed-icons : listed s .icons ≡ map (iconOf s) (offsetOrder s)
   unfolding listed
   listed-icons = refl
@@ -87,17 +88,17 @@ module _ (s : List ℕ) (acc : Accepted s) (small : AreBytes s) (apart : repeatF
       let size = length-map (offsetOrder s) (nameOf s) in
       let second : j < length (offsetOrder s) = omega arith in
       let first : i < length (offsetOrder s) = omega arith in
-      let (m, a, p) = has-some (allRecords s) _ (held-at s acc i first) in
-      let (n, d, q) = has-some (allRecords s) _ (held-at s acc j second) in
+      let (m, a, p) = has-some (allRecords Short s) _ (held-at s acc i first) in
+      let (n, d, q) = has-some (allRecords Short s) _ (held-at s acc j second) in
       let ordered = order-rises s acc i j l second in
-      let other : m ≡ n → ⊥ = λ h. omega (arith, p, q, ap (λ k. getD (allRecords s) k 0) h) in
-      let named : (k : ℕ) → k < length (allRecords s) → getD (map (nameOf s) (allRecords s)) k [] ≡ nameOf s (getD (allRecords s) k 0) =
-      map-at (nameOf s) (allRecords s) 0 [] in
-      let same : getD (map (nameOf s) (allRecords s)) m [] ≡ getD (map (nameOf s) (allRecords s)) n [] =
+      let other : m ≡ n → ⊥ = λ h. omega (arith, p, q, ap (λ k. getD (allRecords Short s) k 0) h) in
+      let named : (k : ℕ) → k < length (allRecords Short s) → getD (map (nameOf s) (allRecords Short s)) k [] ≡ nameOf s (getD (allRecords Short s) k 0) =
+      map-at (nameOf s) (allRecords Short s) 0 [] in
+      let same : getD (map (nameOf s) (allRecords Short s)) m [] ≡ getD (map (nameOf s) (allRecords Short s)) n [] =
       named m a ∙ ap (nameOf s) p ∙ sym (map-at (nameOf s) (offsetOrder s) 0 [] i first) ∙ e
       ∙ map-at (nameOf s) (offsetOrder s) 0 [] j second ∙ ap (nameOf s) (sym q) ∙ sym (named n d) in
-      let once : NoneTwice (map (nameOf s) (allRecords s)) = rw (uses-are s) at (none-repeated [] (recordUses s) apart) in
-      let order-size = length-map (allRecords s) (nameOf s) in
+      let once : NoneTwice (map (nameOf s) (allRecords Short s)) = rw (uses-are s) at (none-repeated [] (recordUses s) apart) in
+      let order-size = length-map (allRecords Short s) (nameOf s) in
       elim (decLt m n) [ yes h ↦ once m n h (omega arith) same | no h ↦ once n m (omega arith) (omega arith) (sym same) ]
 
   pub listed-good : Good (listed s)
@@ -106,9 +107,9 @@ module _ (s : List ℕ) (acc : Accepted s) (small : AreBytes s) (apart : repeatF
     paths-good = rw listed-paths (each-first (λ p. allowedPath p ≡ true) (pathOf s) (directories s) path-right);
     icons-good = rw (path-count, listed-icons)
         (each-map (GoodIcon (directories s)) (iconOf s) (offsetOrder s)
-        (each-rising (allRecords s) (λ r. GoodIcon (directories s) (iconOf s r)) (length s) (λ r l e. icon-allowed s small (held-keeps s acc r e .1))));
+        (each-rising (allRecords Short s) (λ r. GoodIcon (directories s) (iconOf s r)) (length s) (λ r l e. icon-allowed s small (held-keeps s acc r e .1))));
     none-twice = rw listed-icons (rw (map-map (λ (x : Icon). x .name) (iconOf s) (offsetOrder s)) records-apart);
   }
 
-  pub listed-few : length (allRecords s) ≤ 65535 → length (listed s .icons) ≤ 65535
-  listed-few l = rw listed-icons (omega (arith, length-map (offsetOrder s) (iconOf s), rising-few (allRecords s) (length s)))
+  pub listed-few : length (allRecords Short s) ≤ 65535 → length (listed s .icons) ≤ 65535
+  listed-few l = rw listed-icons (omega (arith, length-map (offsetOrder s) (iconOf s), rising-few (allRecords Short s) (length s)))

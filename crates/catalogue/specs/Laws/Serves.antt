@@ -18,6 +18,7 @@ use Rattle.format.specs.Laws.Links.{on-chain, one-step}
 use Rattle.format.specs.Laws.Lookup.{query-allowed, found-enough, found-short}
 use Rattle.format.specs.Laws.LookupAnswers.{lookup-answers}
 use Rattle.format.specs.Laws.Demand.{demand3, check-answers}
+use Rattle.format.specs.declared.Reading.the-variants.{Short}
 use Rattle.catalogue.specs.Catalogue.{Icon, Catalogue, Good, NoneTwice, names, iconIs}
 use Rattle.catalogue.specs.LaidOut.{nthIcon, iconBucket, Places, Lays}
 use Rattle.catalogue.specs.Serves.{wordsOf, GivesIcon, countIn, fullest, Serves}
@@ -48,23 +49,23 @@ module _ {s : List ℕ} {d : Catalogue} {b : ℕ} {q : Places} (good : Good d) (
   chain : {k : ℕ} → k < buckets s → ChainOf s d b q k
   chain l = chain-of good lays some (omega (arith, buckets-are))
 
-  pub lays-accepted : Accepted s
+  pub lays-accepted : Accepted Short s
   lays-accepted = record { tables-kept = tables-kept good lays some; lower = λ k l. (chain l .steps, chain l .holds) }
 
   -- the chains have together as many records as there are icons
   abbrev pub counts : ℕ → ℕ
   counts k = countIn (iconBucket d b) k 0 (length (d .icons))
 
-  pub counts-are : Lengths s (buckets s) counts
+  pub counts-are : Lengths Short s (buckets s) counts
   counts-are k l = let w = chain l in rw (w .counted) at (w .holds)
 
   pub all-counted : sum counts (buckets s) ≡ length (d .icons)
   all-counted =
       rw buckets-are (counted-once (iconBucket d b) b (λ i. mod-lt (hash (nthIcon d i .name)) some) 0 (length (d .icons)))
 
-  check-counts : check s ≡ accepted (length (d .paths)) (length (d .icons)) (fullest d b)
+  check-counts : check Short s ≡ accepted (length (d .paths)) (length (d .icons)) (fullest d b)
   check-counts =
-      check-answers s .accepts lays-accepted counts counts-are
+      check-answers Short s .accepts lays-accepted counts counts-are
       ∙ rw (laid good lays .directories-are, all-counted) (ap (λ n. accepted (length (d .paths)) (length (d .icons)) (greatest counts n)) buckets-are)
 
   -- the record at a step bears its icon's name
@@ -124,7 +125,7 @@ module _ {s : List ℕ} {d : Catalogue} {b : ℕ} {q : Places} (good : Good d) (
   pub absent : (name : List ℕ) (room : ℕ) → allowed name ≡ true → ((i : ℕ) → i < length (d .icons) → nthIcon d i .name ≡ name → ⊥)
       → lookup s name room .number ≡ 30
   absent name room a none =
-      demand3 s .looks-up name room lays-accepted a .absent .1
+      demand3 Short s .looks-up name room lays-accepted a .absent .1
       (λ k n r l on e.
       let w = chain l in
       let (i, h) = w .icon-at n (on-chain (w .holds) on .0) in

@@ -6,6 +6,7 @@ use native.Mathlib.Omega.{arith}
 use borrow.Author.Needs.{needs}
 use denote.Ref.{now}
 use Rattle.format.specs.Laws.Along.{keeps-chain}
+use Rattle.format.specs.declared.Reading.the-variants.{Short}
 use Rattle.chains.specs.Walk.{steppedTo, Judged}
 use Rattle.chains.specs.Laws.{walked-is, Goes, walked-goes}
 use Rattle.chains.proofs.Stops.{walked-over}
@@ -40,7 +41,7 @@ returns-2 c k j =
     let stands = stands-on (g .keeps) (g .at) (g .opened) in
     c .go-round .ensures
     ∙ ap (steppedTo _) (turned-last back stands (g .opened) (j .few))
-    ∙ walked-is _ _ _ (keeps-chain _ _ (turned-keeps back stands (g .opened)))
+    ∙ walked-is _ _ _ (keeps-chain Short _ _ (turned-keeps back stands (g .opened)))
 
 pub finish-spec : {M : Type 1} → statement M
 finish-spec = tie.close (tie.spec (λ c. search needs) returns go-round-requires returns-2)

@@ -11,6 +11,7 @@ use Rattle.format.specs.Words.{link}
 use Rattle.format.specs.Laws.Follow.{opens-one}
 use Rattle.format.specs.Laws.Along.{keeps-chain}
 use Rattle.format.specs.declared.Next.the-variants.{Record}
+use Rattle.format.specs.declared.Reading.the-variants.{Short}
 use Rattle.tables.specs.Laws.{valid-header}
 use Rattle.chains.specs.Walk.{Stands, steppedTo}
 use Rattle.chains.specs.Laws.{walked-is}
@@ -38,7 +39,7 @@ abbrev start : tie.After-known-told Inv-loop μ-loop → tie.Start Inv-loop μ-l
 start c = turn c .before .before
 
 module _ (c : tie.After-known-told Inv-loop μ-loop) where
-  led : let a = start c .args in follow (now (a .cache)) (a .bucket) (turn c .loop .field) ≡ Record (c .before .after .given .0 .0)
+  led : let a = start c .args in follow Short (now (a .cache)) (a .bucket) (turn c .loop .field) ≡ Record (c .before .after .given .0 .0)
   led = sym (c .before .before .before .before .follow .ensures) ∙ c .before .after .given .1
 
   one : c .before .before .before .opens .result ≡ 1
@@ -58,7 +59,7 @@ returns-2 c =
     let keeps = leads-keeps stands (small told) (led told) in
     ap (λ x. steppedTo x (told .before .after .given .0 .0)) opened
     ∙ ap (steppedTo (most + 1)) (leads-link stands (small told) (led told) ∙ ap (link _ _) full)
-    ∙ walked-is _ _ _ (keeps-chain _ _ (λ m l. keeps m (omega arith)))
+    ∙ walked-is _ _ _ (keeps-chain Short _ _ (λ m l. keeps m (omega arith)))
 
 loop-again : tie.Need-loop-again Inv-loop μ-loop
 loop-again c =

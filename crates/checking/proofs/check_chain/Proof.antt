@@ -8,6 +8,7 @@ use denote.Ref.{now}
 use Rattle.format.specs.Chain.{Chain, chainOf}
 use Rattle.format.specs.Call.{unnamed}
 use Rattle.format.specs.declared.Next.{Next}
+use Rattle.format.specs.declared.Reading.the-variants.{Short}
 use Rattle.tables.specs.Laws.{valid-header}
 use Rattle.chains.specs.Walk.{walked}
 use Rattle.chains.specs.Laws.{walked-goes, walked-ended, walked-broken}
@@ -25,7 +26,7 @@ check-long-requires c κs =
     (pre .0, ((pre .1 .0, omega (arith, few), omega (arith, few, pre .1 .1)), λ m g. keeps m (omega arith)))
 
 abbrev whole : tie.After-walk → Chain
-whole w = let a = w .before .before .before .args in chainOf (now (a .cache)) (a .bucket) (a .most)
+whole w = let a = w .before .before .before .args in chainOf Short (now (a .cache)) (a .bucket) (a .most)
 
 -- what a search says of a chain that is walked to where it ends or breaks
 on-whole : (c : Chain) {a : Walked} {l : Next} (f : ℕ) → a ≡ walked c → a .after ≡ l → unnamed f l (a .opened) ≡ unnamedOn f c

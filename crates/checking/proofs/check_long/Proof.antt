@@ -6,6 +6,7 @@ use borrow.Author.Needs.{needs}
 use denote.Ref.{now}
 use Rattle.format.specs.Chain.{chainOf}
 use Rattle.format.specs.Call.{unnamed}
+use Rattle.format.specs.declared.Reading.the-variants.{Short}
 use Rattle.tables.specs.Laws.{valid-header, same-field}
 use Rattle.chains.specs.declared.Walked.{Walked}
 use Rattle.checking.specs.Buckets.{unnamedOn}
@@ -24,7 +25,7 @@ returns c =
     let field = c .before .bucket-field .result in
     c .unnamed .ensures
     ∙ ap (λ (a : Walked). unnamed field (a .after) (a .opened)) (walk .finish .ensures _ (walk .before .go-on .ensures))
-    ∙ ap (λ f. unnamedOn f (chainOf (now (start .args .cache)) (start .args .bucket) (start .args .most))) (c .before .bucket-field .ensures ∙ same-field (start .pre .0) _)
+    ∙ ap (λ f. unnamedOn f (chainOf Short (now (start .args .cache)) (start .args .bucket) (start .args .most))) (c .before .bucket-field .ensures ∙ same-field (start .pre .0) _)
 
 pub check-long-spec : {M : Type 1} → statement M
 check-long-spec =

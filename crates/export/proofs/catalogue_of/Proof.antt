@@ -8,6 +8,7 @@ use denote.Ref.{now}
 use Rattle.format.specs.Words.{Accepted}
 use Rattle.format.specs.Laws.Rules.{tables-keep-header}
 use Rattle.format.specs.declared.CheckAnswer.{CheckAnswer}
+use Rattle.format.specs.declared.Reading.the-variants.{Short}
 use Rattle.listing.specs.Laws.Pages.{pages}
 use Rattle.export.specs.Laws.Call.{check-refuses}
 use Rattle.export.proofs.catalogue_of.Statement.{statement}
@@ -19,7 +20,7 @@ returns c =
     let told = check-refuses _ _ (checked .check .ensures .0) (c .before .if1 .taken) in
     (c .refusal .ensures ∙ told .0, told .1)
 
-accepted : (c : tie.Else1) → Accepted (now (c .before .before .before .before .before .args .cache))
+accepted : (c : tie.Else1) → Accepted Short (now (c .before .before .before .before .before .args .cache))
 accepted c = c .before .before .check .ensures .1 .0 .accepted .0 (c .if1 .left)
 
 list-requires : tie.Need-list-requires

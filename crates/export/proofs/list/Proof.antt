@@ -8,6 +8,7 @@ use lib.ListN.{length}
 use denote.Ref.{now}
 use Rattle.format.specs.Chain.{allRecords}
 use Rattle.format.specs.Laws.Faults.{same-number}
+use Rattle.format.specs.declared.Reading.the-variants.{Short}
 use Rattle.catalogue.specs.Repeats.{repeatFault}
 use Rattle.catalogue.specs.Listed.{recordUses}
 use Rattle.export.specs.Laws.Pieces.{indexed}
@@ -43,7 +44,7 @@ module _ (c : tie.Else2) where
   abbrev begin : tie.Start
   begin = start (asked (c .before))
 
-  few : length (allRecords (now (begin .args .cache))) ≤ 65535
+  few : length (allRecords Short (now (begin .args .cache))) ≤ 65535
   few = omega (arith, begin .pre .1)
 
 whole-requires : tie.Need-whole-requires

@@ -15,6 +15,7 @@ use Rattle.format.specs.declared.Fault.{Fault}
 use Rattle.format.specs.declared.CheckAnswer.{CheckAnswer}
 use Rattle.format.specs.Laws.Demand.{demand3}
 use Rattle.format.specs.Laws.Faults.{same-number, orElse-first, orElse-next, kept-passes, broken-speaks, unless-kept, unless-broken}
+use Rattle.format.specs.declared.Reading.the-variants.{Short}
 use Rattle.tables.specs.declared.Tables.{Tables}
 use Rattle.catalogue.specs.Repeats.{repeatFault}
 use Rattle.catalogue.specs.Listed.{recordUses}
@@ -27,8 +28,8 @@ use Rattle.gathering.specs.Chains.{Sound}
 abbrev pub Told : List ℕ → List ℕ → WriteAnswer → List ℕ → Type 0
 Told s lent a after = (a ≡ catalogueOf s (length lent)) × (after ≡ catalogueLeaves s lent)
 
-pub sound-checked : {s : List ℕ} {t : Tables} → Sound s t → check s .number ≡ 0
-sound-checked {s} h = demand3 s .checks .accepted .1 (h .accepted)
+pub sound-checked : {s : List ℕ} {t : Tables} → Sound s t → check Short s .number ≡ 0
+sound-checked {s} h = demand3 Short s .checks .accepted .1 (h .accepted)
 
 module _ (s lent : List ℕ) where
   refuses : {v : Fault} → listingFault s (length lent) ≡ v → (v .number ≡ 0 → ⊥) → Told s lent (writeIs (v .number) (v .place) 0) lent
@@ -39,13 +40,13 @@ module _ (s lent : List ℕ) where
         sym (ap (λ w. leftBy w (listedBytes s) lent) e ∙ nothing .1),
       )
 
-  pub check-refuses : {a : CheckAnswer} → a ≡ check s → (a .number ≡ 0 → ⊥) → Told s lent (writeIs (a .number) (a .place) 0) lent
+  pub check-refuses : {a : CheckAnswer} → a ≡ check Short s → (a .number ≡ 0 → ⊥) → Told s lent (writeIs (a .number) (a .place) 0) lent
   unfolding listingFault
   check-refuses e some =
-      let broken : check s .number ≡ 0 → ⊥ = λ z. some (ap (λ (a : CheckAnswer). a .number) e ∙ z) in
+      let broken : check Short s .number ≡ 0 → ⊥ = λ z. some (ap (λ (a : CheckAnswer). a .number) e ∙ z) in
       rw e (refuses (orElse-first _ _ broken) broken)
 
-  module _ (kept : check s .number ≡ 0) where
+  module _ (kept : check Short s .number ≡ 0) where
     pub name-refuses : {v : Fault} → v ≡ repeatFault [] (recordUses s) → (v .number ≡ 0 → ⊥) → Told s lent (writeIs (v .number) (v .place) 0) lent
     unfolding listingFault
     name-refuses e some =
@@ -53,12 +54,12 @@ module _ (s lent : List ℕ) where
         rw e (refuses (orElse-next _ _ kept ∙ orElse-first _ _ repeated) repeated)
 
     module _ (apart : repeatFault [] (recordUses s) .number ≡ 0) where
-      pub many-refused : 65535 < length (allRecords s) → Told s lent (writeIs 21 0 0) lent
+      pub many-refused : 65535 < length (allRecords Short s) → Told s lent (writeIs 21 0 0) lent
       unfolding listingFault
       many-refused l =
           refuses (orElse-next _ _ kept ∙ orElse-next _ _ apart ∙ broken-speaks _ 20 0 _ (lt-leb _ _ l)) (λ z. omega arith)
 
-      module _ (few : length (allRecords s) ≤ 65535) where
+      module _ (few : length (allRecords Short s) ≤ 65535) where
         size-decides : listingFault s (length lent) ≡ unless (leb (length (listedBytes s)) (length lent)) 19 0
         unfolding listingFault
         size-decides = orElse-next _ _ kept ∙ orElse-next _ _ apart ∙ kept-passes _ 21 0 _ (le-leb _ _ few)

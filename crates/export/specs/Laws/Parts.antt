@@ -15,6 +15,7 @@ use Rattle.format.specs.Laws.Bytes.{bytes-length}
 use Rattle.format.specs.Laws.Extents.{string-whole}
 use Rattle.format.specs.Laws.Strings.{WholeString, whole-string, string-front}
 use Rattle.format.specs.Laws.Rules.{record-valid, tables-paths}
+use Rattle.format.specs.declared.Reading.the-variants.{Short}
 use Rattle.tables.specs.Tables.{pathJudged}
 use Rattle.tables.specs.declared.Tables.{Tables}
 use Rattle.tables.specs.declared.JudgedPath.{JudgedPath}
@@ -46,7 +47,7 @@ pub record IconInside (s : List ℕ) (r : ℕ) : Type 0 where
 
 pub icon-inside : {s : List ℕ} {r : ℕ} → Kept s r → IconInside s r
 icon-inside {s} {r} h =
-    let valid = record-valid s (h .bucket) r (h .keeps .rules) in
+    let valid = record-valid Short s (h .bucket) r (h .keeps .rules) in
     let name = whole-string 255 (namePart s r) (valid .named) in
     record {
       inside = h .keeps .inside;

@@ -13,6 +13,7 @@ use Rattle.format.specs.Chain.{allRecords}
 use Rattle.format.specs.Laws.Bytes.{bytes-length}
 use Rattle.format.specs.Laws.Put.{put-then}
 use Rattle.format.specs.Laws.Links.{on-chain}
+use Rattle.format.specs.declared.Reading.the-variants.{Short}
 use Rattle.tables.specs.declared.Tables.{Tables}
 use Rattle.catalogue.specs.Catalogue.{pathBytes, iconBytes}
 use Rattle.catalogue.specs.Listed.{firsts, offsetOrder, iconOf, listed}
@@ -43,10 +44,10 @@ flat-firsts f g zero = refl
 flat-firsts f g (suc n) = flat-append f (firsts g n) (g n ∷ []) ∙ rw (flat-firsts f g n, append-nil (f (g n)))
 
 -- an index of no more records than an icon count can say
-pub indexed : {s : List ℕ} {t : Tables} {index : List ℕ} {n : ℕ} → Sound s t → Ordered s index n → length (allRecords s) ≤ 65535 → 65535 ≤ length index → Indexed s t index n
+pub indexed : {s : List ℕ} {t : Tables} {index : List ℕ} {n : ℕ} → Sound s t → Ordered s index n → length (allRecords Short s) ≤ 65535 → 65535 ≤ length index → Indexed s t index n
 indexed {s} {index = index} {n} sound ordered few room =
     let all = ap length ordered ∙ firsts-length (λ i. getD index i 0) n in
-    let fewer = rising-few (allRecords s) (length s) in
+    let fewer = rising-few (allRecords Short s) (length s) in
     record { sound = sound; ordered = ordered; room = omega arith; few = omega arith }
 
 -- the pieces in their order, each section after its count

@@ -10,6 +10,7 @@ use Rattle.format.specs.Chain.{mostRecords}
 use Rattle.format.specs.Words.{link, Inside, Keeps, KeepsBelow, Holds}
 use Rattle.format.specs.Laws.Pigeonhole.{Distinct, member, pigeonhole}
 use Rattle.format.specs.Laws.Links.{Repeat, once, keeps-bucket}
+use Rattle.format.specs.declared.Reading.{Reading}
 
 -- the records of the first n steps of the chain of bucket k, put before xs
 unfoldable pub visits : List ℕ → ℕ → ℕ → List ℕ → List ℕ
@@ -43,21 +44,21 @@ pub apart-none : (s : List ℕ) (k : ℕ) → Apart s k []
 apart-none s k = record { distinct = tt; inside = λ y h. absurd (List·Memᴰ·not-nil h); lower = λ y h. absurd (List·Memᴰ·not-nil h) }
 
 -- one more record, of bucket k
-apart-cons : {s : List ℕ} {k r : ℕ} {xs : List ℕ} → Keeps s k r → (List·Memᴰ r xs → ⊥) → Apart s (suc k) xs → Apart s (suc k) (r ∷ xs)
+apart-cons : {ρ : Reading} {s : List ℕ} {k r : ℕ} {xs : List ℕ} → Keeps ρ s k r → (List·Memᴰ r xs → ⊥) → Apart s (suc k) xs → Apart s (suc k) (r ∷ xs)
 apart-cons keeps new a = record {
   distinct = (new, a .distinct);
   inside = λ y h. elim (List·Memᴰ·cases-cons h) [ inl e ↦ rw e (keeps .inside) | inr i ↦ a .inside y i ];
   lower = λ y h. elim (List·Memᴰ·cases-cons h) [ inl e ↦ rw e (omega (arith, keeps-bucket keeps)) | inr i ↦ a .lower y i ];
 }
 
-module _ {s : List ℕ} {k : ℕ} {xs : List ℕ} (a : Apart s k xs) where
+module _ {ρ : Reading} {s : List ℕ} {k : ℕ} {xs : List ℕ} (a : Apart s k xs) where
   -- n records that keep the rules of the chain of bucket k repeat, or lie apart from xs and from
   -- one another
-  pub apart-visits : (n : ℕ) → KeepsBelow s k n → Repeat s k n ⊎ Apart s (suc k) (visits s k n xs)
+  pub apart-visits : (n : ℕ) → KeepsBelow ρ s k n → Repeat s k n ⊎ Apart s (suc k) (visits s k n xs)
   unfolding visits
   apart-visits zero keeps = inr (record { distinct = a .distinct; inside = a .inside; lower = λ y h. omega (arith, a .lower y h) })
   apart-visits (suc n) keeps =
-      let here : Keeps s k (link s k n) = keeps n (omega arith) .1 in
+      let here : Keeps ρ s k (link s k n) = keeps n (omega arith) .1 in
       elim (apart-visits n (λ m l. keeps m (omega arith))) [
         | inl c ↦ inl (record { first = c .first; second = c .second; order = c .order; below = omega arith; same = c .same })
         | inr b ↦ elim (member (link s k n) (visits s k n xs)) [
@@ -69,23 +70,23 @@ module _ {s : List ℕ} {k : ℕ} {xs : List ℕ} (a : Apart s k xs) where
         ]
       ]
 
-  pub apart-chain : {n : ℕ} → Holds s k n → Apart s (suc k) (visits s k n xs)
+  pub apart-chain : {n : ℕ} → Holds ρ s k n → Apart s (suc k) (visits s k n xs)
   apart-chain {n} h = elim (apart-visits n (h .keeps)) [ inl c ↦ absurd (once h c) | inr b ↦ b ]
 
   -- these and records of the chain of bucket k that keep the rules and do not repeat are few
-  pub apart-few : {n : ℕ} → KeepsBelow s k n → (Repeat s k n → ⊥) → length xs + n ≤ mostRecords s
+  pub apart-few : {n : ℕ} → KeepsBelow ρ s k n → (Repeat s k n → ⊥) → length xs + n ≤ mostRecords s
   apart-few {n} keeps never = elim (apart-visits n keeps) [
     | inl c ↦ absurd (never c)
     | inr b ↦ omega (arith, apart-length b, visits-length s k n xs)
   ]
 
   -- with more than there can be, it repeats
-  pub repeats : {n : ℕ} → mostRecords s < length xs + n → KeepsBelow s k n → Repeat s k n
+  pub repeats : {n : ℕ} → mostRecords s < length xs + n → KeepsBelow ρ s k n → Repeat s k n
   repeats {n} more keeps = elim (apart-visits n keeps) [
     | inl c ↦ c
     | inr b ↦ absurd (omega (arith, apart-length b, visits-length s k n xs))
   ]
 
 -- the records of one chain that holds
-pub holds-few : {s : List ℕ} {k n : ℕ} → Holds s k n → n ≤ mostRecords s
+pub holds-few : {ρ : Reading} {s : List ℕ} {k n : ℕ} → Holds ρ s k n → n ≤ mostRecords s
 holds-few {s} {k} h = omega (arith, apart-few (apart-none s k) (h .keeps) (once h))

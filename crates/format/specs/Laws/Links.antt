@@ -14,8 +14,10 @@ use Rattle.format.specs.Words.{link, linkField, Keeps, KeepsAt, KeepsBel
 use Rattle.format.specs.Laws.Below.{le-unless, lt-unless}
 use Rattle.format.specs.Laws.Faults.{same-number}
 use Rattle.format.specs.Laws.Numbers.{OneOf, linkNumbers}
-use Rattle.format.specs.Laws.Rules.{record-valid}
+use Rattle.format.specs.Laws.Rules.{record-valid, keeps-short}
 use Rattle.format.specs.Laws.Follow.{link-number, keeps-link}
+use Rattle.format.specs.declared.Reading.{Reading}
+use Rattle.format.specs.declared.Reading.the-variants.{Short}
 
 -- two steps below n name one record
 pub record Repeat (s : List ℕ) (k n : ℕ) : Type 0 where
@@ -26,20 +28,20 @@ pub record Repeat (s : List ℕ) (k n : ℕ) : Type 0 where
   pub same : link s k second ≡ link s k first
 
 -- the name of a record that keeps the rules is one of its bucket
-pub keeps-bucket : {s : List ℕ} {k r : ℕ} → Keeps s k r → bucketOf s (nameOf s r) ≡ k
-keeps-bucket {s} {k} {r} h = record-valid s k r (h .rules) .home
+pub keeps-bucket : {ρ : Reading} {s : List ℕ} {k r : ℕ} → Keeps ρ s k r → bucketOf s (nameOf s r) ≡ k
+keeps-bucket {ρ} {s} {k} {r} h = record-valid ρ s k r (h .rules) .home
 
 -- its images lie inside
-pub keeps-listed : {s : List ℕ} {k r : ℕ} → Keeps s k r → imagesAt s r + 4 + 8 * images s r ≤ length s
-keeps-listed {s} {k} {r} h = record-valid s k r (h .rules) .listed
+pub keeps-listed : {ρ : Reading} {s : List ℕ} {k r : ℕ} → Keeps ρ s k r → imagesAt s r + 4 + 8 * images s r ≤ length s
+keeps-listed {ρ} {s} {k} {r} h = record-valid ρ s k r (h .rules) .listed
 
-module _ {s : List ℕ} {k n x p : ℕ} (b : Breaks s k n x p) where
+module _ {ρ : Reading} {s : List ℕ} {k n x p : ℕ} (b : Breaks ρ s k n x p) where
   -- a record that keeps the rules breaks none
-  broken-keeps : Keeps s k (link s k n) → ⊥
-  broken-keeps h = omega (arith, keeps-link s k (linkField s k n) _ h, same-number (b .broken), b .some)
+  broken-keeps : Keeps ρ s k (link s k n) → ⊥
+  broken-keeps h = omega (arith, keeps-link ρ s k (linkField s k n) _ h, same-number (b .broken), b .some)
 
-  pub broken-number : OneOf linkNumbers x
-  broken-number = rw (same-number (b .broken)) at (link-number s k (linkField s k n) (link s k n))
+  pub broken-number : OneOf (linkNumbers ρ) x
+  broken-number = rw (same-number (b .broken)) at (link-number ρ s k (linkField s k n) (link s k n))
 
 module _ {s : List ℕ} {k n : ℕ} (c : Repeat s k n) where
   -- each step names a record that an earlier one below the repeat names
@@ -53,15 +55,15 @@ module _ {s : List ℕ} {k n : ℕ} (c : Repeat s k n) where
         | no a ↦ (suc i, omega arith, ap (be 4 s) e)
       ]
 
-  pub round : KeepsBelow s k n → (m : ℕ) → KeepsAt s k m
+  pub round : {ρ : Reading} → KeepsBelow ρ s k n → (m : ℕ) → KeepsAt ρ s k m
   round keeps m = let (i, l, e) = earlier m in rw e (keeps i (omega arith))
 
-  pub never-breaks : {x p : ℕ} → Breaks s k n x p → ⊥
+  pub never-breaks : {ρ : Reading} {x p : ℕ} → Breaks ρ s k n x p → ⊥
   never-breaks b = broken-keeps b (round (b .keeps) n .1)
 
-module _ {s : List ℕ} {k n : ℕ} (h : Holds s k n) where
+module _ {ρ : Reading} {s : List ℕ} {k n : ℕ} (h : Holds ρ s k n) where
   -- records that keep the rules come before the end
-  pub keeps-le : {m : ℕ} → KeepsBelow s k m → m ≤ n
+  pub keeps-le : {m : ℕ} → KeepsBelow ρ s k m → m ≤ n
   keeps-le keeps = le-unless (λ l. keeps n l .0 (h .ends))
 
   -- a link that is no end value, with none before it, lies before the end
@@ -69,10 +71,10 @@ module _ {s : List ℕ} {k n : ℕ} (h : Holds s k n) where
   before-end before here = lt-unless (λ e. here (rw (← e) (h .ends))) (λ l. before n l (h .ends))
 
   -- no record on it breaks a rule
-  pub unbroken : {m x p : ℕ} → Breaks s k m x p → ⊥
+  pub unbroken : {m x p : ℕ} → Breaks ρ s k m x p → ⊥
   unbroken {m} b = broken-keeps b (h .keeps m (before-end (λ i g. b .keeps i g .0) (b .real)) .1)
 
-  pub on-chain : {m r : ℕ} → OnChain s k m r → (m < n) × Keeps s k r
+  pub on-chain : {m r : ℕ} → OnChain s k m r → (m < n) × Keeps ρ s k r
   on-chain {m} c =
       let l = before-end (λ i g. c .before i g .0) (rw (c .named) (c .real)) in
       (l, rw (← c .named) (h .keeps m l .1))
@@ -89,3 +91,12 @@ module _ {s : List ℕ} {k n : ℕ} (h : Holds s k n) where
 
   pub one-step : {i j : ℕ} → i < n → j < n → link s k i ≡ link s k j → i ≡ j
   one-step l g e = le-antisymm (once-le l e) (once-le g (sym e))
+
+-- what keeps the rules by any reading keeps those of the short one
+pub below-short : {ρ : Reading} {s : List ℕ} {k n : ℕ} → KeepsBelow ρ s k n → KeepsBelow Short s k n
+below-short {ρ} {s} {k} keeps m l =
+    let (real, here) = keeps m l in
+    (real, record { inside = here .inside; rules = keeps-short ρ s k _ (here .rules) })
+
+pub holds-short : {ρ : Reading} {s : List ℕ} {k n : ℕ} → Holds ρ s k n → Holds Short s k n
+holds-short h = record { keeps = below-short (h .keeps); ends = h .ends }

@@ -13,10 +13,11 @@ use Rattle.format.specs.Laws.Links.{broken-number}
 use Rattle.format.specs.Laws.Search.{search-absent, search-finds, search-breaks, search-lasts, Sought, absent, met, broken, lasts, sought}
 use Rattle.format.specs.Laws.Lookup.{query-number, find-refuses, find-searches, found-enough, found-either, lookup-found, lookup-unfound}
 use Rattle.format.specs.Laws.LookupAnswers.{found-keeps}
+use Rattle.format.specs.declared.Reading.the-variants.{Short}
 
 -- the numbers of a search, and those of a lookup; so neither answers 6 or 16, and a search not 14
 abbrev pub findNumbers : List ℕ
-findNumbers = 30 ∷ 12 ∷ 13 ∷ headerNumbers ++ linkNumbers
+findNumbers = 30 ∷ 12 ∷ 13 ∷ headerNumbers ++ linkNumbers Short
 
 abbrev pub lookupNumbers : List ℕ
 lookupNumbers = 14 ∷ findNumbers
@@ -48,6 +49,6 @@ pub lookup-enough : (s name : List ℕ) (room : ℕ) → 2 * 1024 ≤ room
 lookup-enough s name room enough = elim (ℕ-discrete (find s name .number) 0) [
   | no refused ↦ rw (lookup-unfound s name room refl refused) (refl, refl)
   | yes found ↦
-      let few = record-valid _ _ _ (found-keeps s name refl found .rules) .few in
+      let few = record-valid Short _ _ _ (found-keeps s name refl found .rules) .few in
       rw (lookup-found s name room refl found, found-enough s room (find s name .place) (find s name .opened) (omega arith)) (sym found, refl)
 ]

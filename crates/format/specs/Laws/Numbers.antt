@@ -9,6 +9,8 @@ use borrow.Author.Tests.{ne-eqb}
 use lib.Dec.{eqb}
 use Rattle.format.specs.Fault.{unless, _orElse_, firstFault}
 use Rattle.format.specs.declared.Fault.{Fault}
+use Rattle.format.specs.declared.Reading.{Reading}
+use Rattle.format.specs.declared.Reading.the-variants.{Short, Long}
 use Rattle.format.specs.Laws.Faults.{orElse-first, orElse-next}
 
 abbrev pub listed : ℕ → List ℕ → Bool
@@ -18,18 +20,19 @@ listed x (n ∷ ns) = eqb x n || listed x ns
 pub record OneOf (ns : List ℕ) (x : ℕ) : Type 0 where
   pub one : listed x (0 ∷ ns) ≡ true
 
--- the numbers of rules: on the header, on a path, on a record, at a field of a chain
+-- the numbers of rules: on the header, on a path, on a record by a reading, at a field of a chain
 abbrev pub headerNumbers : List ℕ
 headerNumbers = 1 ∷ 2 ∷ 3 ∷ 4 ∷ 5 ∷ []
 
 abbrev pub tablesNumbers : List ℕ
 tablesNumbers = 6 ∷ 16 ∷ 17 ∷ headerNumbers
 
-abbrev pub recordNumbers : List ℕ
-recordNumbers = 8 ∷ 9 ∷ 10 ∷ 11 ∷ 17 ∷ []
+abbrev pub recordNumbers : Reading → List ℕ
+recordNumbers Short = 8 ∷ 9 ∷ 10 ∷ 11 ∷ 17 ∷ []
+recordNumbers Long = 22 ∷ 23 ∷ 24 ∷ 8 ∷ 9 ∷ 10 ∷ 11 ∷ 17 ∷ []
 
-abbrev pub linkNumbers : List ℕ
-linkNumbers = 7 ∷ recordNumbers
+abbrev pub linkNumbers : Reading → List ℕ
+linkNumbers ρ = 7 ∷ recordNumbers ρ
 
 -- another number is none of them
 pub never : {ns : List ℕ} {x : ℕ} (n : ℕ) → OneOf ns x → listed n (0 ∷ ns) ≡ false → x ≡ n → ⊥
@@ -61,3 +64,13 @@ listed-in (n ∷ ns) ms x h e =
 
 pub widened : {ns ms : List ℕ} {x : ℕ} → includes (0 ∷ ms) (0 ∷ ns) ≡ true → OneOf ns x → OneOf ms x
 widened {ns} {ms} {x} h e = record { one = listed-in (0 ∷ ns) (0 ∷ ms) x h (e .one) }
+
+-- a record's number is one at its field
+pub at-field : (ρ : Reading) {x : ℕ} → OneOf (recordNumbers ρ) x → OneOf (linkNumbers ρ) x
+at-field Short h = widened refl h
+at-field Long h = widened refl h
+
+-- the numbers of the long reading are those of any
+pub of-any : (ρ : Reading) {x : ℕ} → OneOf (linkNumbers ρ) x → OneOf (linkNumbers Long) x
+of-any Short h = widened refl h
+of-any Long h = h

@@ -11,6 +11,7 @@ use Rattle.format.specs.Chain.{Chain, chainOf, mostRecords, recordsBelow
 use Rattle.format.specs.Words.{link, Holds, Lengths, sum, greatest}
 use Rattle.format.specs.Laws.Along.{links, links-length, holds-chain}
 use Rattle.format.specs.Laws.Apart.{holds-few}
+use Rattle.format.specs.declared.Reading.{Reading}
 
 links-at : (s : List ℕ) (k n m : ℕ) → m < n → getD (links s k n) m 0 ≡ link s k m
 unfolding links
@@ -59,35 +60,35 @@ module _ (len : ℕ → ℕ) where
         | no c ↦ (k, omega arith, omega arith)
       ]
 
-module _ {s : List ℕ} (len : ℕ → ℕ) where
+module _ {ρ : Reading} {s : List ℕ} (len : ℕ → ℕ) where
   -- the records of a chain that holds
-  chain-records : (k : ℕ) → Holds s k (len k) → chainOf s k (mostRecords s) .records ≡ links s k (len k)
-  chain-records k h = ap (λ (c : Chain). c .records) (holds-chain s k (holds-few h) h)
+  chain-records : (k : ℕ) → Holds ρ s k (len k) → chainOf ρ s k (mostRecords s) .records ≡ links s k (len k)
+  chain-records k h = ap (λ (c : Chain). c .records) (holds-chain ρ s k (holds-few h) h)
 
-  pub records-length : (k : ℕ) → Lengths s k len → length (recordsBelow s k) ≡ sum len k
+  pub records-length : (k : ℕ) → Lengths ρ s k len → length (recordsBelow ρ s k) ≡ sum len k
   unfolding recordsBelow sum
   records-length zero h = refl
   records-length (suc k) h =
       rw (chain-records k (h k (omega arith)))
-      (omega (arith, length-append (recordsBelow s k) (links s k (len k)), records-length k (λ j l. h j (omega arith)), links-length s k (len k)))
+      (omega (arith, length-append (recordsBelow ρ s k) (links s k (len k)), records-length k (λ j l. h j (omega arith)), links-length s k (len k)))
 
-  pub longest-length : (k : ℕ) → Lengths s k len → longestBelow s k ≡ greatest len k
+  pub longest-length : (k : ℕ) → Lengths ρ s k len → longestBelow ρ s k ≡ greatest len k
   unfolding longestBelow greatest
   longest-length zero h = refl
   longest-length (suc k) h =
       rw (chain-records k (h k (omega arith)), links-length s k (len k), longest-length k (λ j l. h j (omega arith)))
 
-  pub record-at : (k : ℕ) → Lengths s k len → {j m : ℕ} → j < k → m < len j → getD (recordsBelow s k) (sum len j + m) 0 ≡ link s j m
+  pub record-at : (k : ℕ) → Lengths ρ s k len → {j m : ℕ} → j < k → m < len j → getD (recordsBelow ρ s k) (sum len j + m) 0 ≡ link s j m
   unfolding recordsBelow
   record-at zero h l c = absurd (omega arith)
   record-at (suc k) h {j} {m} l c =
-      let below : Lengths s k len = λ i g. h i (omega arith) in
+      let below : Lengths ρ s k len = λ i g. h i (omega arith) in
       elim (ℕ-discrete j k) [
         | yes e ↦
-            rw (chain-records k (h k (omega arith)), e, ← (records-length k below)) (getD-append-add (recordsBelow s k) (links s k (len k)) m 0)
+            rw (chain-records k (h k (omega arith)), e, ← (records-length k below)) (getD-append-add (recordsBelow ρ s k) (links s k (len k)) m 0)
             ∙ links-at s j (len j) m c
         | no a ↦
             let b : j < k = omega arith in
-            List·getD-append (recordsBelow s k) (chainOf s k (mostRecords s) .records) 0 (sum len j + m) (omega (arith, records-length k below, sum-before len k b))
+            List·getD-append (recordsBelow ρ s k) (chainOf ρ s k (mostRecords s) .records) 0 (sum len j + m) (omega (arith, records-length k below, sum-before len k b))
             ∙ record-at k below b c
       ]

@@ -11,6 +11,7 @@ use Rattle.format.specs.Record.{nameOf, bucketOf, imagesAt, images, name
 use Rattle.format.specs.Laws.Names.{same-equal}
 use Rattle.format.specs.Laws.Faults.{same-number, orElse-first, orElse-next, unless-broken, broken-speaks, kept-passes}
 use Rattle.format.specs.Laws.Extents.{string-kept, string-broken}
+use Rattle.format.specs.declared.Reading.the-variants.{Short}
 
 module _ (s : List ℕ) (k r : ℕ) where
   pub name-unread : isWhole (nameExtent s r) ≡ false → nameFault s k r ≡ stringFault (nameExtent s r) 8 (r + 4)
@@ -28,11 +29,11 @@ module _ (s : List ℕ) (k r : ℕ) where
     pub name-home : bucketOf s (nameOf s r) ≡ k → nameFault s k r ≡ noFault
     name-home h = name-passes ∙ ap (λ b. unless b 9 (r + 4)) (eq-eqb _ _ h)
 
-  pub record-misnamed : (nameFault s k r .number ≡ 0 → ⊥) → recordFault s k r ≡ nameFault s k r
+  pub record-misnamed : (nameFault s k r .number ≡ 0 → ⊥) → recordFault Short s k r ≡ nameFault s k r
   unfolding recordFault
   record-misnamed h = orElse-first _ _ h
 
-  pub record-named : nameFault s k r .number ≡ 0 → recordFault s k r ≡ listFault s r
+  pub record-named : nameFault s k r .number ≡ 0 → recordFault Short s k r ≡ listFault s r
   unfolding recordFault
   record-named e = orElse-next _ _ e
 

@@ -21,6 +21,7 @@ use Rattle.format.specs.Laws.Along.{links, links-length, chain-along, ho
 use Rattle.format.specs.Laws.Links.{Repeat, earlier, once, never-breaks}
 use Rattle.format.specs.Laws.Apart.{apart-none, apart-few}
 use Rattle.format.specs.Laws.Course.{ends, breaks, goes-on, course}
+use Rattle.format.specs.declared.Reading.the-variants.{Short}
 
 module _ (s name : List ℕ) where
   -- one record: it bears the name, or it does not
@@ -43,38 +44,38 @@ module _ (s name : List ℕ) (k : ℕ) where
       ∙ search-next s name (link s k n) rs n a (none n (omega arith))
       ∙ rw add-one
 
-  pub search-unnamed : (n : ℕ) {l : Next} → chainOf s k (mostRecords s) ≡ chained (links s k n) l → NoneBelow s name k n
+  pub search-unnamed : (n : ℕ) {l : Next} → chainOf Short s k (mostRecords s) ≡ chained (links s k n) l → NoneBelow s name k n
       → searchBucket s name k ≡ unnamed (bucketField s k) l (n + opens l)
   unfolding searchBucket firstNamed
   search-unnamed n e none = rw (searchBucket, e, links-length s k n, ← (append-nil (links s k n))) (search-past n [] _ none)
 
   -- records that keep the rules and do not repeat are no more than there can be
-  pub within : {n : ℕ} → KeepsBelow s k n → (Repeat s k n → ⊥) → n ≤ mostRecords s
+  pub within : {n : ℕ} → KeepsBelow Short s k n → (Repeat s k n → ⊥) → n ≤ mostRecords s
   within keeps never = omega (arith, apart-few (apart-none s k) keeps never)
 
   -- a record that bears a name that none before it bears is no repeat
   first-met : {n : ℕ} → NoneBelow s name k n → nameOf s (link s k n) ≡ name → Repeat s k (suc n) → ⊥
   first-met {n} none same c = let (i, l, e) = earlier c n in none i (omega (arith, c .below)) (sym (ap (nameOf s) e) ∙ same)
 
-  pub search-absent : (n : ℕ) → Holds s k n → NoneBelow s name k n → searchBucket s name k ≡ unfound 30 0 n
-  search-absent n h none = search-unnamed n (holds-chain s k (within (h .keeps) (once h)) h) none ∙ rw add-zero
+  pub search-absent : (n : ℕ) → Holds Short s k n → NoneBelow s name k n → searchBucket s name k ≡ unfound 30 0 n
+  search-absent n h none = search-unnamed n (holds-chain Short s k (within (h .keeps) (once h)) h) none ∙ rw add-zero
 
-  pub search-finds : (n : ℕ) → KeepsBelow s k n → NoneBelow s name k n → KeepsAt s k n → nameOf s (link s k n) ≡ name
+  pub search-finds : (n : ℕ) → KeepsBelow Short s k n → NoneBelow s name k n → KeepsAt Short s k n → nameOf s (link s k n) ≡ name
       → searchBucket s name k ≡ found (link s k n) (n + 1)
   unfolding searchBucket links
   search-finds n keeps none here same =
       let more = below-suc keeps here in
       let l : suc n ≤ mostRecords s = within more (first-met none same) in
-      let rest = chain (mostRecords s - suc n) s k (linkField s k (suc n)) .records in
-      rw (searchBucket, chain-along s k (suc n) (mostRecords s - suc n) {N = mostRecords s} (omega arith) more, append-assoc)
+      let rest = chain Short (mostRecords s - suc n) s k (linkField s k (suc n)) .records in
+      rw (searchBucket, chain-along Short s k (suc n) (mostRecords s - suc n) {N = mostRecords s} (omega arith) more, append-assoc)
       (search-past n (link s k n ∷ rest) _ none ∙ search-met s name (link s k n) rest n _ same)
 
-  pub search-breaks : (n x p : ℕ) → Breaks s k n x p → NoneBelow s name k n → searchBucket s name k ≡ unfound x p (n + itself x)
-  search-breaks n x p b none = search-unnamed n (breaks-chain s k (within (b .keeps) (λ c. never-breaks c b)) b) none
+  pub search-breaks : (n x p : ℕ) → Breaks Short s k n x p → NoneBelow s name k n → searchBucket s name k ≡ unfound x p (n + itself x)
+  search-breaks n x p b none = search-unnamed n (breaks-chain Short s k (within (b .keeps) (λ c. never-breaks c b)) b) none
 
-  pub search-lasts : KeepsBelow s k (suc (mostRecords s)) → NoneBelow s name k (mostRecords s)
+  pub search-lasts : KeepsBelow Short s k (suc (mostRecords s)) → NoneBelow s name k (mostRecords s)
       → searchBucket s name k ≡ unfound 12 (bucketField s k) (mostRecords s + 1)
-  search-lasts keeps none = search-unnamed (mostRecords s) (keeps-chain s k keeps) none
+  search-lasts keeps none = search-unnamed (mostRecords s) (keeps-chain Short s k keeps) none
 
   -- the first of n records that bears it, if one does
   first-named : (n : ℕ) → NoneBelow s name k n ⊎ ((m : ℕ) × (m < n) × NoneBelow s name k m × (nameOf s (link s k m) ≡ name))
@@ -88,21 +89,21 @@ module _ (s name : List ℕ) (k : ℕ) where
   ]
 
 pub data Sought (s name : List ℕ) (k : ℕ) : Type 0 where
-  absent : {n : ℕ} → Holds s k n → NoneBelow s name k n → Sought s name k
-  met : {n : ℕ} → KeepsBelow s k n → NoneBelow s name k n → KeepsAt s k n → nameOf s (link s k n) ≡ name → Sought s name k
-  broken : {n x p : ℕ} → Breaks s k n x p → NoneBelow s name k n → Sought s name k
-  lasts : KeepsBelow s k (suc (mostRecords s)) → NoneBelow s name k (mostRecords s) → Sought s name k
+  absent : {n : ℕ} → Holds Short s k n → NoneBelow s name k n → Sought s name k
+  met : {n : ℕ} → KeepsBelow Short s k n → NoneBelow s name k n → KeepsAt Short s k n → nameOf s (link s k n) ≡ name → Sought s name k
+  broken : {n x p : ℕ} → Breaks Short s k n x p → NoneBelow s name k n → Sought s name k
+  lasts : KeepsBelow Short s k (suc (mostRecords s)) → NoneBelow s name k (mostRecords s) → Sought s name k
 
 module _ (s name : List ℕ) (k : ℕ) where
   -- by the first of n records that bears the name, and without one
-  seek : (n : ℕ) → KeepsBelow s k n → (NoneBelow s name k n → Sought s name k) → Sought s name k
+  seek : (n : ℕ) → KeepsBelow Short s k n → (NoneBelow s name k n → Sought s name k) → Sought s name k
   seek n keeps unmet = elim (first-named s name k n) [
     | inl none ↦ unmet none
     | inr t ↦ met {n = t .0} (λ i l. keeps i (omega (arith, t .1))) (t .2) (keeps (t .0) (t .1)) (t .3)
   ]
 
   pub sought : Sought s name k
-  sought = elim (course s k (mostRecords s)) [
+  sought = elim (course Short s k (mostRecords s)) [
     | ends {n = n} l h ↦ seek n (h .keeps) (absent h)
     | breaks {n = n} l b ↦ seek n (b .keeps) (broken b)
     | goes-on keeps ↦ seek (mostRecords s) (λ i l. keeps i (omega arith)) (lasts keeps)

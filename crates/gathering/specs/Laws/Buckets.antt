@@ -15,6 +15,7 @@ use Rattle.format.specs.Laws.Faults.{same-number, orElse-first, orElse-next}
 use Rattle.format.specs.Laws.Along.{links, holds-chain}
 use Rattle.format.specs.Laws.Apart.{holds-few}
 use Rattle.format.specs.Laws.Links.{keeps-bucket}
+use Rattle.format.specs.declared.Reading.the-variants.{Short}
 use Rattle.catalogue.specs.Catalogue.{Each}
 use Rattle.catalogue.specs.Repeats.{Use, useIs, repeatFault}
 use Rattle.catalogue.specs.Listed.{firsts, recordUses}
@@ -30,14 +31,14 @@ links-firsts s k (suc n) = rw (links-firsts s k n)
 
 module _ (s : List ℕ) where
   abbrev usesBelow : ℕ → List Use
-  usesBelow k = usesOf s (recordsBelow s k)
+  usesBelow k = usesOf s (recordsBelow Short s k)
 
   abbrev usesOn : ℕ → List Use
-  usesOn k = usesOf s (chainOf s k (mostRecords s) .records)
+  usesOn k = usesOf s (chainOf Short s k (mostRecords s) .records)
 
   below-next : (k : ℕ) → usesBelow (suc k) ≡ usesBelow k ++ usesOn k
   unfolding recordsBelow
-  below-next k = map-append (λ r. useIs (nameOf s r) (r + 4)) (recordsBelow s k) (chainOf s k (mostRecords s) .records)
+  below-next k = map-append (λ r. useIs (nameOf s r) (r + 4)) (recordsBelow Short s k) (chainOf Short s k (mostRecords s) .records)
 
   fault-split : (k : ℕ) → repeatFault [] (usesBelow (suc k)) ≡ repeatFault [] (usesBelow k) orElse repeatFault (passed [] (usesBelow k)) (usesOn k)
   fault-split k = ap (repeatFault []) (below-next k) ∙ repeat-append [] (usesBelow k) (usesOn k)
@@ -51,12 +52,12 @@ module _ (s : List ℕ) where
       ap (λ j. repeatFault [] (usesBelow j)) on ∙ fault-split (m + k)
       ∙ orElse-first _ _ (λ z. some (sym (same-number before) ∙ z)) ∙ before
 
-  module _ (acc : Accepted s) where
+  module _ (acc : Accepted Short s) where
     each-on : (P : List ℕ → Type 0) (k : ℕ) → k < buckets s → ((t : List ℕ) → bucketOf s t ≡ k → P t) → Each (λ u. P (u .name)) (usesOn k)
     each-on P k l means =
         let (n, h) = acc .lower k l in
-        let records : chainOf s k (mostRecords s) .records ≡ firsts (link s k) n =
-        ap (λ (c : Chain). c .records) (holds-chain s k (holds-few h) h) ∙ links-firsts s k n in
+        let records : chainOf Short s k (mostRecords s) .records ≡ firsts (link s k) n =
+        ap (λ (c : Chain). c .records) (holds-chain Short s k (holds-few h) h) ∙ links-firsts s k n in
         rw records (each-map (λ u. P (u .name)) (λ r. useIs (nameOf s r) (r + 4)) (firsts (link s k) n)
         (each-first (λ r. P (nameOf s r)) (link s k) n (λ i g. means _ (keeps-bucket (h .keeps i g .1)))))
 
@@ -78,13 +79,13 @@ module _ (s : List ℕ) where
 
 -- no name on the chains below bucket k was used before
 abbrev pub PassedChains : List ℕ → ℕ → Type 0
-PassedChains s k = repeatFault [] (usesOf s (recordsBelow s k)) .number ≡ 0
+PassedChains s k = repeatFault [] (usesOf s (recordsBelow Short s k)) .number ≡ 0
 
 pub chains-first : (s : List ℕ) → PassedChains s 0
 unfolding recordsBelow repeatFault
 chains-first s = refl
 
-module _ {s : List ℕ} (acc : Accepted s) {k : ℕ} (before : PassedChains s k) where
+module _ {s : List ℕ} (acc : Accepted Short s) {k : ℕ} (before : PassedChains s k) where
   module _ (l : k < buckets s) where
     pub chains-next : chainRepeat s k .number ≡ 0 → PassedChains s (suc k)
     chains-next e = same-number (fault-next s acc k l ∙ orElse-next _ _ before) ∙ e
@@ -94,7 +95,7 @@ module _ {s : List ℕ} (acc : Accepted s) {k : ℕ} (before : PassedChains s k)
     chains-broken some =
         let here = fault-next s acc k l ∙ orElse-next _ _ before in
         let all : buckets s - suc k + suc k ≡ buckets s = omega arith in
-        sym (ap (λ j. repeatFault [] (usesOf s (recordsBelow s j))) (sym all) ∙ fault-stays s (suc k) (buckets s - suc k) (λ z. some (sym (same-number here) ∙ z)) ∙ here)
+        sym (ap (λ j. repeatFault [] (usesOf s (recordsBelow Short s j))) (sym all) ∙ fault-stays s (suc k) (buckets s - suc k) (λ z. some (sym (same-number here) ∙ z)) ∙ here)
 
   pub chains-all : k ≡ buckets s → noFault ≡ repeatFault [] (recordUses s)
   unfolding recordUses among

@@ -16,6 +16,7 @@ use Rattle.format.specs.Words.{link, Holds, Accepted}
 use Rattle.format.specs.Laws.Along.{links, links-length, holds-chain}
 use Rattle.format.specs.Laws.Apart.{holds-few}
 use Rattle.format.specs.Laws.Links.{on-chain}
+use Rattle.format.specs.declared.Reading.the-variants.{Short}
 use Rattle.listing.specs.Laws.Pages.{pages}
 use Rattle.names.specs.Index.{Answered}
 use Rattle.names.specs.Laws.Index.{nothing-met, offsets-rise}
@@ -57,43 +58,43 @@ gathered-more {rs = rs} {n} {r} h {b} told = record {
 
 -- the records of the chains below k, and m of bucket k's chain
 abbrev pub reached : List ℕ → ℕ → ℕ → List ℕ
-reached s k m = recordsBelow s k ++ links s k m
+reached s k m = recordsBelow Short s k ++ links s k m
 
 module _ (s : List ℕ) (k : ℕ) where
-  pub reached-first : recordsBelow s k ≡ reached s k 0
+  pub reached-first : recordsBelow Short s k ≡ reached s k 0
   unfolding links
-  reached-first = sym (append-nil (recordsBelow s k))
+  reached-first = sym (append-nil (recordsBelow Short s k))
 
   pub reached-next : (m : ℕ) {v : ℕ} → v ≡ link s k m → reached s k m ++ (v ∷ []) ≡ reached s k (m + 1)
   unfolding links
-  reached-next m e = rw (e, add-one) (append-assoc (recordsBelow s k) (links s k m) (link s k m ∷ []))
+  reached-next m e = rw (e, add-one) (append-assoc (recordsBelow Short s k) (links s k m) (link s k m ∷ []))
 
-  pub reached-all : {n : ℕ} → Holds s k n → reached s k n ≡ recordsBelow s (suc k)
+  pub reached-all : {n : ℕ} → Holds Short s k n → reached s k n ≡ recordsBelow Short s (suc k)
   unfolding recordsBelow
-  reached-all h = ap (λ rs. recordsBelow s k ++ rs) (sym (ap (λ (c : Chain). c .records) (holds-chain s k (holds-few h) h)))
+  reached-all h = ap (λ rs. recordsBelow Short s k ++ rs) (sym (ap (λ (c : Chain). c .records) (holds-chain Short s k (holds-few h) h)))
 
-  pub reached-length : (m : ℕ) → length (reached s k m) ≡ length (recordsBelow s k) + m
-  reached-length m = length-append (recordsBelow s k) (links s k m) ∙ rw (links-length s k m)
+  pub reached-length : (m : ℕ) → length (reached s k m) ≡ length (recordsBelow Short s k) + m
+  reached-length m = length-append (recordsBelow Short s k) (links s k m) ∙ rw (links-length s k m)
 
-  pub fewer-below : (m : ℕ) → length (recordsBelow s k) ≤ length (recordsBelow s (m + k))
+  pub fewer-below : (m : ℕ) → length (recordsBelow Short s k) ≤ length (recordsBelow Short s (m + k))
   unfolding recordsBelow
   fewer-below zero = let e : 0 + k ≡ k = omega arith in rw e (omega arith)
   fewer-below (suc m) =
       let e : suc m + k ≡ suc (m + k) = omega arith in
-      rw e (omega (arith, fewer-below m, length-append (recordsBelow s (m + k)) (chainOf s (m + k) (mostRecords s) .records)))
+      rw e (omega (arith, fewer-below m, length-append (recordsBelow Short s (m + k)) (chainOf Short s (m + k) (mostRecords s) .records)))
 
 -- the index of all records
-pub gathered-ordered : {s index : List ℕ} {n : ℕ} → Accepted s → Gathered index n (allRecords s) → Ordered s index n
+pub gathered-ordered : {s index : List ℕ} {n : ℕ} → Accepted Short s → Gathered index n (allRecords Short s) → Ordered s index n
 gathered-ordered {s} {index} {n} acc h =
-    rising-are (allRecords s) (λ i. getD index i 0) n
+    rising-are (allRecords Short s) (λ i. getD index i 0) n
     (offsets-rise index n (h .known .rising))
     held
     (λ r e. let (i, l, q) = h .known .exact (r ∷ []) .1 (h .same r ∙ e) in (i, l, cc))
     (length s)
     (λ i l.
-    let (m, g, e) = has-some (allRecords s) (getD index i 0) (held i l) in
+    let (m, g, e) = has-some (allRecords Short s) (getD index i 0) (held i l) in
     let (k, j, b, on) = pages s .each-once acc .each (getD index i 0) .0 (m, g, e) in
     omega (arith, on-chain (acc .lower k b .1) on .1 .inside))
   where
-    held : (i : ℕ) → i < n → has (allRecords s) (getD index i 0) ≡ true
+    held : (i : ℕ) → i < n → has (allRecords Short s) (getD index i 0) ≡ true
     held i l = sym (h .same (getD index i 0)) ∙ h .known .exact (getD index i 0 ∷ []) .0 (i, l, refl)

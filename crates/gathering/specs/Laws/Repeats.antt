@@ -19,6 +19,7 @@ use Rattle.format.specs.Laws.Names.{among-either}
 use Rattle.format.specs.Laws.Faults.{same-number, orElse-first, orElse-next, orElse-assoc, kept-passes, broken-speaks}
 use Rattle.format.specs.Laws.Along.{links, holds-chain}
 use Rattle.format.specs.Laws.Apart.{holds-few}
+use Rattle.format.specs.declared.Reading.the-variants.{Short}
 use Rattle.catalogue.specs.Catalogue.{Each}
 use Rattle.catalogue.specs.Repeats.{Use, useIs, repeatFault}
 use Rattle.names.specs.Repeat.{FirstRepeat, seen}
@@ -114,7 +115,7 @@ module _ (s : List ℕ) (k : ℕ) where
   ]
 
   -- the search for the first repeat along a chain
-  module _ {n : ℕ} (h : Holds s k n) {f : ℕ} (start : f ≡ bucketField s k) where
+  module _ {n : ℕ} (h : Holds Short s k n) {f : ℕ} (start : f ≡ bucketField s k) where
     module _ (room : f + 4 ≤ length s) where
       record-ends : (i : ℕ) → i < n → ahead s f (suc i) + 12 ≤ length s
       record-ends i l = omega (arith, ap (λ p. ahead s p (suc i)) start ∙ ahead-link i, h .keeps i l .1 .inside)
@@ -130,7 +131,7 @@ module _ (s : List ℕ) (k : ℕ) where
 
     along : chainRepeat s k ≡ repeatFault [] (uses n)
     unfolding uses
-    along = ap (λ (c : Chain). repeatFault [] (usesOf s (c .records))) (holds-chain s k (holds-few h) h)
+    along = ap (λ (c : Chain). repeatFault [] (usesOf s (c .records))) (holds-chain Short s k (holds-few h) h)
 
     module _ {r : ℕ} (found : FirstRepeat (nameAlong s f) n r) where
       first : FirstRepeat name n r

@@ -15,6 +15,7 @@ use Rattle.format.specs.Laws.Rules.{tables-header, tables-paths}
 use Rattle.format.specs.Laws.Buckets.{check-goes-on, check-refuses}
 use Rattle.format.specs.Laws.Demand.{check-demand}
 use Rattle.format.specs.Laws.Longest.{longest-demand}
+use Rattle.format.specs.declared.Reading.the-variants.{Short}
 use Rattle.icon_cache.proofs.check.Statement.{statement}
 use Rattle.icon_cache.proofs.check.Tie as tie
 
@@ -22,27 +23,27 @@ header-kept : (c : tie.Else1) → headerFault (now (c .before .before .before .b
 header-kept c = rw (c .before .before .header .ensures) at (c .if1 .left)
 
 -- what equals the definition's answer meets demand 3 and request 9
-meets : (s : List ℕ) {a : CheckAnswer} → a ≡ check s → (a ≡ check s) × (CheckDemand s a × LongestDemand s a)
-meets s e = (e, (rw e (check-demand s), rw e (longest-demand s)))
+meets : (s : List ℕ) {a : CheckAnswer} → a ≡ check Short s → (a ≡ check Short s) × (CheckDemand Short s a × LongestDemand Short s a)
+meets s e = (e, (rw e (check-demand Short s), rw e (longest-demand Short s)))
 
 returns : tie.Need-returns
 returns c =
     let hdr = c .before .before .before .header in
     let broken = tables-header _ (rw (hdr .ensures) at (c .before .if1 .taken)) ∙ sym (hdr .ensures) in
-    meets _ (c .refused .ensures ∙ sym (check-refuses _ broken (c .before .if1 .taken)))
+    meets _ (c .refused .ensures ∙ sym (check-refuses Short _ broken (c .before .if1 .taken)))
 
 returns-2 : tie.Need-returns-2
 returns-2 c =
     let judged = c .before .before .before in
     let broken = tables-paths _ (header-kept (judged .before .before)) ∙ sym (judged .paths .ensures) in
-    meets _ (c .refused2 .ensures ∙ sym (check-refuses _ broken (c .before .if2 .taken)))
+    meets _ (c .refused2 .ensures ∙ sym (check-refuses Short _ broken (c .before .if2 .taken)))
 
 returns-3 : tie.Need-returns-3
 returns-3 c =
     let judged = c .before .before .before in
     let kept = rw (judged .paths .ensures) at (c .before .if2 .left) in
     let tables-kept = same-number (tables-paths _ (header-kept (judged .before .before))) ∙ kept in
-    meets _ (c .check-buckets .ensures ∙ sym (check-goes-on _ tables-kept))
+    meets _ (c .check-buckets .ensures ∙ sym (check-goes-on Short _ tables-kept))
 
 pub check-spec : {M : Type 1} → statement M
 check-spec =

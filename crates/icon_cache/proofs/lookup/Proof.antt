@@ -13,17 +13,18 @@ use Rattle.format.specs.Laws.LookupAnswers.{found-keeps}
 use Rattle.format.specs.Laws.Demand.{lookup-demand}
 use Rattle.format.specs.Laws.Longest.{longest-demand}
 use Rattle.format.specs.declared.LookupAnswer.{LookupAnswer}
+use Rattle.format.specs.declared.Reading.the-variants.{Short}
 use Rattle.icon_cache.proofs.lookup.Statement.{statement}
 use Rattle.icon_cache.proofs.lookup.Tie as tie
 
 -- what equals the definition's answer meets demand 3 and request 9
 meets : (s name words after : List ℕ) {a : LookupAnswer} → a ≡ lookup s name (length words) → after ≡ answerWords s words a
-    → (a ≡ lookup s name (length words)) × ((after ≡ lookupWords s name words) × (LookupKept s name a × OpensWithin s a))
+    → (a ≡ lookup s name (length words)) × ((after ≡ lookupWords s name words) × (LookupKept Short s name a × OpensWithin s a))
 meets s name words after e lent = (
   e,
   (
     lent ∙ ap (answerWords s words) e,
-    (rw e (lookup-demand s name (length words)), λ accepted. rw e (longest-demand s .most accepted name (length words))),
+    (rw e (lookup-demand Short s name (length words)), λ accepted. rw e (longest-demand Short s .most accepted name (length words))),
   ),
 )
 

@@ -11,6 +11,7 @@ use Rattle.format.specs.Laws.Header.{header-number}
 use Rattle.format.specs.Laws.Links.{broken-number}
 use Rattle.format.specs.Laws.Along.{after-is, holds-chain, breaks-chain, keeps-chain}
 use Rattle.format.specs.Laws.Course.{Course, ends, breaks, goes-on, course}
+use Rattle.format.specs.declared.Reading.the-variants.{Short}
 use Rattle.listing.specs.Listing.{position, handsBack, stays, validPosition, positionFault, onward, step}
 use Rattle.listing.specs.Paging.{GoesOn, here, on, HasRecord, StepAnswers}
 use Rattle.listing.specs.Laws.Steps.{onward-ends, onward-breaks, onward-gives, position-tells, step-refuses, step-goes}
@@ -18,7 +19,7 @@ use Rattle.listing.specs.declared.Position.{Position}
 
 pub data Ahead (s : List ℕ) (q : Position) : Type 0 where
   record-ahead : {r : Position} → GoesOn s q r → HasRecord s r → Ahead s q
-  break-ahead : {r : Position} {n x p : ℕ} → GoesOn s q r → r .bucket < buckets s → n ≤ r .count → Breaks s (r .bucket) n x p → Ahead s q
+  break-ahead : {r : Position} {n x p : ℕ} → GoesOn s q r → r .bucket < buckets s → n ≤ r .count → Breaks Short s (r .bucket) n x p → Ahead s q
   nothing-ahead : {r : Position} → GoesOn s q r → r .bucket ≡ buckets s → Ahead s q
 
 module _ {s : List ℕ} where
@@ -31,7 +32,7 @@ module _ {s : List ℕ} where
   onward-goes p here l = refl
   onward-goes p {q} {r} (on {n = n} h c g) l =
       let more : buckets s - q .bucket ≡ suc (buckets s - suc (q .bucket)) = omega (arith, goes-up g) in
-      rw more (onward-ends s p (buckets s - suc (q .bucket)) (q .bucket) (q .count) (after-is (holds-chain s (q .bucket) c h))) ∙ onward-goes p g l
+      rw more (onward-ends s p (buckets s - suc (q .bucket)) (q .bucket) (q .count) (after-is (holds-chain Short s (q .bucket) c h))) ∙ onward-goes p g l
 
   -- the answer where the step goes on to a bucket r
   module _ {q r : Position} (valid : positionFault s q .number ≡ 0) (g : GoesOn s q r) where
@@ -44,10 +45,10 @@ module _ {s : List ℕ} where
         step-on (omega arith) ∙ rw more
 
     gives : HasRecord s r → step s q ≡ handsBack (link s (r .bucket) (r .count)) (position (r .bucket) (suc (r .count)))
-    gives h = step-to (h .0) ∙ onward-gives s q (buckets s - suc (r .bucket)) (r .bucket) (r .count) (after-is (keeps-chain s (r .bucket) (h .1)))
+    gives h = step-to (h .0) ∙ onward-gives s q (buckets s - suc (r .bucket)) (r .bucket) (r .count) (after-is (keeps-chain Short s (r .bucket) (h .1)))
 
-    refuses-record : {n x p : ℕ} → r .bucket < buckets s → n ≤ r .count → Breaks s (r .bucket) n x p → step s q ≡ stays x p q
-    refuses-record l c b = step-to l ∙ onward-breaks s q (buckets s - suc (r .bucket)) (r .bucket) (r .count) (after-is (breaks-chain s (r .bucket) c b))
+    refuses-record : {n x p : ℕ} → r .bucket < buckets s → n ≤ r .count → Breaks Short s (r .bucket) n x p → step s q ≡ stays x p q
+    refuses-record l c b = step-to l ∙ onward-breaks s q (buckets s - suc (r .bucket)) (r .bucket) (r .count) (after-is (breaks-chain Short s (r .bucket) c b))
 
     done : r .bucket ≡ buckets s → step s q ≡ stays 28 0 q
     unfolding onward
@@ -63,12 +64,12 @@ step-answers s q = record {
 
 module _ {s : List ℕ} {q : Position} where
   -- past a chain that has no more
-  ahead-on : {n : ℕ} → Holds s (q .bucket) n → n ≤ q .count → Ahead s (position (suc (q .bucket)) 0) → Ahead s q
+  ahead-on : {n : ℕ} → Holds Short s (q .bucket) n → n ≤ q .count → Ahead s (position (suc (q .bucket)) 0) → Ahead s q
   ahead-on h c (record-ahead g t) = record-ahead (on h c g) t
   ahead-on h c (break-ahead g t d b) = break-ahead (on h c g) t d b
   ahead-on h c (nothing-ahead g t) = nothing-ahead (on h c g) t
 
-  ahead-here : q .bucket < buckets s → Course s (q .bucket) (q .count) → Ahead s (position (suc (q .bucket)) 0) → Ahead s q
+  ahead-here : q .bucket < buckets s → Course Short s (q .bucket) (q .count) → Ahead s (position (suc (q .bucket)) 0) → Ahead s q
   ahead-here l (ends c h) later = ahead-on h c later
   ahead-here l (breaks c b) later = break-ahead here l c b
   ahead-here l (goes-on keeps) later = record-ahead here (l, keeps)
@@ -77,14 +78,14 @@ module _ {s : List ℕ} {q : Position} where
 ahead-of : (s : List ℕ) (m : ℕ) (q : Position) → m ≡ buckets s - q .bucket → q .bucket ≤ buckets s → Ahead s q
 ahead-of s zero q e l = nothing-ahead here (omega arith)
 ahead-of s (suc m) q e l =
-    ahead-here (omega arith) (course s (q .bucket) (q .count)) (ahead-of s m (position (suc (q .bucket)) 0) (omega arith) (omega arith))
+    ahead-here (omega arith) (course Short s (q .bucket) (q .count)) (ahead-of s m (position (suc (q .bucket)) 0) (omega arith) (omega arith))
 
 pub ahead : (s : List ℕ) (q : Position) → q .bucket ≤ buckets s → Ahead s q
 ahead s q l = ahead-of s (buckets s - q .bucket) q refl l
 
 -- a step's numbers; so it never answers 6 or 16
 abbrev pub stepNumbers : List ℕ
-stepNumbers = 26 ∷ 28 ∷ headerNumbers ++ linkNumbers
+stepNumbers = 26 ∷ 28 ∷ headerNumbers ++ linkNumbers Short
 
 position-number : (s : List ℕ) (q : Position) → OneOf stepNumbers (positionFault s q .number)
 unfolding positionFault

@@ -14,6 +14,7 @@ use Rattle.format.specs.Laws.Below.{below-suc}
 use Rattle.format.specs.Laws.Header.{header-valid}
 use Rattle.format.specs.Laws.Links.{keeps-le}
 use Rattle.format.specs.Laws.Apart.{Apart, visits-length, apart-none, apart-length, apart-chain}
+use Rattle.format.specs.declared.Reading.the-variants.{Short}
 use Rattle.listing.specs.Listing.{position, handsBack, stays, positionFault, step}
 use Rattle.listing.specs.Paging.{GoesOn, here, on, HasRecord, reached, stepAt, mostHanded, Ends}
 use Rattle.listing.specs.Laws.Steps.{position-tells, step-refuses, step-number, step-next}
@@ -45,7 +46,7 @@ record Handed (s : List ℕ) (q : Position) (n : ℕ) : Type 0 where
   xs : List ℕ
   d : ℕ
   apart : Apart s (q .bucket) xs
-  keeps : KeepsBelow s (q .bucket) d
+  keeps : KeepsBelow Short s (q .bucket) d
   counted : d ≤ q .count
   limited : d ≤ length s - 10
   all : n ≤ d + length xs

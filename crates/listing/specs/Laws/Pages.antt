@@ -11,15 +11,16 @@ use Rattle.format.specs.declared.CheckAnswer.{CheckAnswer}
 use Rattle.format.specs.Laws.Order.{records-length}
 use Rattle.format.specs.Laws.Buckets.{lengths}
 use Rattle.format.specs.Laws.Demand.{check-answers}
+use Rattle.format.specs.declared.Reading.the-variants.{Short}
 use Rattle.listing.specs.Paging.{Pages}
 use Rattle.listing.specs.Laws.Lists.{each-once, lists-all}
 use Rattle.listing.specs.Laws.Ends.{ends}
 use Rattle.listing.specs.Laws.Endless.{endless}
 use Rattle.listing.specs.Laws.Opens.{opens}
 
-module _ {s : List ℕ} (acc : Accepted s) where
-  as-many : length (allRecords s) ≡ check s .icons
-  as-many = let (len, h) = lengths acc in records-length len (buckets s) h ∙ sym (ap (λ (a : CheckAnswer). a .icons) (check-answers s .accepts acc len h))
+module _ {s : List ℕ} (acc : Accepted Short s) where
+  as-many : length (allRecords Short s) ≡ check Short s .icons
+  as-many = let (len, h) = lengths acc in records-length len (buckets s) h ∙ sym (ap (λ (a : CheckAnswer). a .icons) (check-answers Short s .accepts acc len h))
 
 pub pages : (s : List ℕ) → Pages s
 pages s = record {

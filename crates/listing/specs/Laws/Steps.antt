@@ -10,6 +10,7 @@ use Rattle.format.specs.Chain.{chainOf, mostRecords}
 use Rattle.format.specs.declared.Fault.{Fault}
 use Rattle.format.specs.declared.Next.the-variants.{End, Broken, Record}
 use Rattle.format.specs.Laws.Faults.{orElse-first, orElse-next, orElse-none, unless-none, kept-takes, broken-takes}
+use Rattle.format.specs.declared.Reading.the-variants.{Short}
 use Rattle.listing.specs.Listing.{position, handsBack, stays, positionFault, onward, step}
 use Rattle.listing.specs.declared.Position.{Position}
 use Rattle.listing.specs.declared.Step.{Step}
@@ -22,15 +23,15 @@ step-next e = ap (λ (a : Step). a .next) e
 
 -- one bucket, by what comes after the records to be passed on its chain
 module _ (s : List ℕ) (q : Position) (n k c : ℕ) where
-  pub onward-ends : chainOf s k c .after ≡ End → onward (suc n) s q k c ≡ onward n s q (suc k) 0
+  pub onward-ends : chainOf Short s k c .after ≡ End → onward (suc n) s q k c ≡ onward n s q (suc k) 0
   unfolding onward
   onward-ends e = rw (onward, e)
 
-  pub onward-breaks : {x p : ℕ} → chainOf s k c .after ≡ Broken x p → onward (suc n) s q k c ≡ stays x p q
+  pub onward-breaks : {x p : ℕ} → chainOf Short s k c .after ≡ Broken x p → onward (suc n) s q k c ≡ stays x p q
   unfolding onward
   onward-breaks e = rw (onward, e)
 
-  pub onward-gives : {r : ℕ} → chainOf s k c .after ≡ Record r → onward (suc n) s q k c ≡ handsBack r (position k (suc c))
+  pub onward-gives : {r : ℕ} → chainOf Short s k c .after ≡ Record r → onward (suc n) s q k c ≡ handsBack r (position k (suc c))
   unfolding onward
   onward-gives e = rw (onward, e)
 

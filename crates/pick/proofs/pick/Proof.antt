@@ -10,6 +10,7 @@ use Rattle.format.specs.Words.{Keeps}
 use Rattle.format.specs.Laws.Rules.{ValidRecord, record-valid}
 use Rattle.format.specs.Laws.Lookup.{query-header, found-asked}
 use Rattle.format.specs.Laws.LookupAnswers.{found-keeps}
+use Rattle.format.specs.declared.Reading.the-variants.{Short}
 use Rattle.pick.specs.Pick.{pickIs}
 use Rattle.pick.specs.Laws.Answer.{words-count, pick-unfound, pick-undescribed, pick-first}
 use Rattle.pick.proofs.pick.Statement.{statement}
@@ -24,12 +25,12 @@ found-at c = c .before .before .before .before
 
 -- the record found keeps the rules
 keeps : (c : tie.Else1)
-    → let a = start c .args in Keeps (now (a .cache)) (bucketOf (now (a .cache)) (now (a .name))) (c .before .before .find .result .place)
+    → let a = start c .args in Keeps Short (now (a .cache)) (bucketOf (now (a .cache)) (now (a .name))) (c .before .before .find .result .place)
 keeps c = found-keeps _ _ (sym (c .before .before .find .ensures)) (c .if1 .left)
 
 valid : (c : tie.Else1)
     → let a = start c .args in ValidRecord (now (a .cache)) (bucketOf (now (a .cache)) (now (a .name))) (c .before .before .find .result .place)
-valid c = record-valid _ _ _ (keeps c .rules)
+valid c = record-valid Short _ _ _ (keeps c .rules)
 
 returns : tie.Need-returns
 returns c = sym (pick-unfound _ _ _ _ _ (sym (c .before .before .find .ensures)) (c .if1 .taken))

@@ -21,6 +21,7 @@ use Rattle.format.specs.Laws.Faults.{unless-none, first-at, first-kept, kept-ea
 use Rattle.format.specs.Laws.Rules.{record-valid}
 use Rattle.format.specs.Laws.LookupAnswers.{found-keeps}
 use Rattle.format.specs.Laws.LookupNumbers.{lookup-enough}
+use Rattle.format.specs.declared.Reading.the-variants.{Short}
 use Rattle.pick.specs.Pick.{fits, firstImage, kindFault, wordsFault, pickIs, pick}
 use Rattle.pick.specs.declared.PickAnswer.{PickAnswer}
 use Rattle.pick.specs.Picking.{SixEach, typeWord, Described, FirstUnknown, imageAt, FirstFits, NoneFits, Case, miscounted, unknown-type, first-fits, none-fits, answerIn, RealImage, Picks}
@@ -79,7 +80,7 @@ module _ (s name : List ℕ) (size scale : ℕ) (w : List ℕ) (is-found : find 
   -- an image that fits keeps rule 11, and its index is not 0xFFFF
   real : (j : ℕ) → FirstFits s size scale w r j → RealImage s (imageAt s r j)
   real j f =
-      let valid = record-valid s _ _ (found-keeps s name refl is-found .rules) in
+      let valid = record-valid Short s _ _ (found-keeps s name refl is-found .rules) in
       let kept = unless-none _ _ _ (kept-each (imageFault s) 8 (images s r) (imagesAt s r + 4) j (f .listed) (valid .images-kept)) in
       let there : be 2 s (imageAt s r j) ≡ 0xFFFF → ⊥ = λ e. false≢true (sym (fits-nowhere w size scale s _ e) ∙ f .here) in
       record { inside = omega (arith, f .listed, valid .listed); directory = index-below _ _ (and-eq-true-iff _ _ .0 kept .0) there }

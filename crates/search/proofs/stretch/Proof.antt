@@ -16,6 +16,7 @@ use Rattle.format.specs.Laws.Below.{below-suc}
 use Rattle.format.specs.Laws.Follow.{opens-one}
 use Rattle.format.specs.Laws.Names.{same-equal, other-unequal}
 use Rattle.format.specs.declared.Next.the-variants.{Record}
+use Rattle.format.specs.declared.Reading.the-variants.{Short}
 use Rattle.tables.specs.Laws.{valid-header}
 use Rattle.chains.specs.Walk.{Stands}
 use Rattle.chains.proofs.Way.{leads-link, leads-on}
@@ -56,7 +57,7 @@ module _ (c : tie.After-known-told Inv-loop μ-loop) where
   abbrev met : ℕ
   met = c .before .next .given .0 .0
 
-  led : let a = start c .args in follow (now (a .cache)) (a .bucket) (turn c .loop .field) ≡ Record met
+  led : let a = start c .args in follow Short (now (a .cache)) (a .bucket) (turn c .loop .field) ≡ Record met
   led = sym (c .before .before .before .before .seek .ensures .next) ∙ c .before .next .given .1
 
   opened : turn c .loop .opened + c .before .before .before .opens .result ≡ turn c .loop .opened + 1

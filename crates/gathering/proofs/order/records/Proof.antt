@@ -8,6 +8,7 @@ use lib.ListN.{length}
 use denote.Ref.{now}
 use Rattle.format.specs.Header as header
 use Rattle.format.specs.Chain.{recordsBelow}
+use Rattle.format.specs.declared.Reading.the-variants.{Short}
 use Rattle.tables.specs.Laws.{same-buckets}
 use Rattle.gathering.specs.Order.{Gathered}
 use Rattle.gathering.specs.Laws.Order.{gathered-none, gathered-ordered, fewer-below}
@@ -15,7 +16,7 @@ use Rattle.gathering.proofs.order.records.Statement.{statement}
 use Rattle.gathering.proofs.order.records.Tie as tie
 
 abbrev Inv-loop : tie.InvT-loop
-Inv-loop cache t index₀ buckets n₀ bucket₀ index n bucket = (length index ≡ length index₀) × (bucket ≤ buckets) × Gathered index n (recordsBelow cache bucket)
+Inv-loop cache t index₀ buckets n₀ bucket₀ index n bucket = (length index ≡ length index₀) × (bucket ≤ buckets) × Gathered index n (recordsBelow Short cache bucket)
 
 abbrev μ-loop : tie.MeasureT-loop
 μ-loop cache t index₀ buckets n₀ bucket₀ index n bucket = buckets - bucket
@@ -32,7 +33,7 @@ take-chain-requires c κs =
     let k = suc (l .loop .bucket) in
     let count = same-buckets (start .pre .0 .tables) in
     let all : header.buckets s - k + k ≡ header.buckets s = omega arith in
-    let few : length (recordsBelow s k) ≤ length (now (start .args .index)) = omega (arith, rw all at (fewer-below s k (header.buckets s - k)), start .pre .1) in
+    let few : length (recordsBelow Short s k) ≤ length (now (start .args .index)) = omega (arith, rw all at (fewer-below s k (header.buckets s - k)), start .pre .1) in
     ((start .pre .0, omega arith), (l .loop .inv .2, omega (arith, l .loop .inv .0)))
 
 loop-again : tie.Need-loop-again Inv-loop μ-loop

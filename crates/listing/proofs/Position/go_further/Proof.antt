@@ -5,6 +5,7 @@ use borrow.Author.Needs.{needs}
 use denote.Ref.{now}
 use Rattle.format.specs.Chain.{chainOf}
 use Rattle.format.specs.declared.Next.{Next}
+use Rattle.format.specs.declared.Reading.the-variants.{Short}
 use Rattle.tables.specs.Laws.{valid-header}
 use Rattle.chains.specs.declared.Walked.{Walked}
 use Rattle.listing.specs.Reach.{reached}
@@ -15,7 +16,7 @@ use Rattle.listing.proofs.Position.go_further.Tie as tie
 follows : (c : tie.After-finish) {l : Next} → c .finish .result .after ≡ l
     → let a = c .before .before .before .args in
     let q = a .self in
-    reached q (a .bucket) (q .count) l ≡ reached q (a .bucket) (q .count) (chainOf (now (a .cache)) (a .bucket) (q .count) .after)
+    reached q (a .bucket) (q .count) l ≡ reached q (a .bucket) (q .count) (chainOf Short (now (a .cache)) (a .bucket) (q .count) .after)
 follows c e =
     let a = c .before .before .before .args in
     ap (reached (a .self) (a .bucket) (a .self .count)) (sym e ∙ ap (λ (w : Walked). w .after) (c .finish .ensures _ (c .before .go-on .ensures)))

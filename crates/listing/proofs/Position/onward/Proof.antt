@@ -12,6 +12,7 @@ use denote.Ref.{now}
 use Rattle.format.specs.Header.{buckets}
 use Rattle.format.specs.Chain.{chainOf, mostRecords}
 use Rattle.format.specs.declared.Next.the-variants.{End, Broken}
+use Rattle.format.specs.declared.Reading.the-variants.{Short}
 use Rattle.tables.specs.Laws.{valid-header, same-buckets}
 use Rattle.chains.specs.declared.Walked.{Walked}
 use Rattle.chains.specs.Laws.{walked-ended, walked-broken}
@@ -61,12 +62,12 @@ turn c =
 -- what comes after the records passed, where the walk has met an end before
 broken : (c : tie.After-walk Inv-loop μ-loop) {x p : ℕ} → c .walk .result .after ≡ Broken x p
     → let l = c .before .before in
-    chainOf (now (start l .args .cache)) (l .loop .bucket) (l .loop .passed) .after ≡ Broken x p
+    chainOf Short (now (start l .args .cache)) (l .loop .bucket) (l .loop .passed) .after ≡ Broken x p
 broken c q = sym (ap (λ (w : Walked). w .after) (walked-broken _ _ _ (c .walk .ensures) (c .before .before .loop .inv .1) q)) ∙ q
 
 ended-before : (c : tie.After-walk Inv-loop μ-loop) → c .walk .result .after ≡ End
     → let l = c .before .before in
-    chainOf (now (start l .args .cache)) (l .loop .bucket) (l .loop .passed) .after ≡ End
+    chainOf Short (now (start l .args .cache)) (l .loop .bucket) (l .loop .passed) .after ≡ End
 ended-before c q = sym (ap (λ (w : Walked). w .after) (walked-ended _ _ _ (c .walk .ensures) (c .before .before .loop .inv .1) q)) ∙ q
 
 reach-requires : tie.Need-reach-requires Inv-loop μ-loop
@@ -92,7 +93,7 @@ returns-2 c =
 -- the chain has ended
 ended : (c : tie.At-match-came Inv-loop μ-loop)
     → let l = c .before .before .before in
-    chainOf (now (start l .args .cache)) (l .loop .bucket) (l .loop .passed) .after ≡ End
+    chainOf Short (now (start l .args .cache)) (l .loop .bucket) (l .loop .passed) .after ≡ End
 ended c =
     ⊎-elim
     (λ long. reach-ends _ _ _ _ (long .3 .ensures) (long .5 .left))

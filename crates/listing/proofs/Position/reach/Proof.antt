@@ -5,6 +5,7 @@ use native.Mathlib.Nat.{le-antisymm}
 use native.Mathlib.Omega.{arith}
 use denote.Ref.{now}
 use Rattle.format.specs.Chain.{chainOf}
+use Rattle.format.specs.declared.Reading.the-variants.{Short}
 use Rattle.tables.specs.Laws.{valid-header}
 use Rattle.chains.specs.Laws.{walked-goes}
 use Rattle.listing.specs.Reach.{reached}
@@ -23,14 +24,14 @@ returns c =
     let start = c .before .before .before in
     let a = start .args in
     let own = start .pre .1 .1 .0 (c .before .if1 .taken) in
-    c .go-further .ensures ∙ ap (λ n. reached (a .self) (a .bucket) n (chainOf (now (a .cache)) (a .bucket) n .after)) (sym own)
+    c .go-further .ensures ∙ ap (λ n. reached (a .self) (a .bucket) n (chainOf Short (now (a .cache)) (a .bucket) n .after)) (sym own)
 
 returns-2 : tie.Need-returns-2
 returns-2 c =
     let start = c .before .before .before in
     let a = start .args in
     let all = le-antisymm (c .before .if1 .left) (start .pre .1 .0 .1) in
-    let next = ap (λ n. chainOf (now (a .cache)) (a .bucket) n .after) all ∙ start .pre .1 .1 .1 in
+    let next = ap (λ n. chainOf Short (now (a .cache)) (a .bucket) n .after) all ∙ start .pre .1 .1 .1 in
     c .hand-back .ensures ∙ ap (reached (a .self) (a .bucket) (a .passed)) (sym next)
 
 pub reach-spec : {M : Type 1} → statement M
