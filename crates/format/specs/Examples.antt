@@ -1,6 +1,6 @@
 -- More examples, under one proved statement: rules at their limits (the most directories and images
--- stand in the program `cases`), parts in the header, loops, and the paths of request 4. Every
--- answer was worked out from the documents.
+-- stand in the program `cases`), parts in the header, loops, the paths of request 4, and the
+-- image data of request 10. Every answer was worked out from the documents.
 use Prim.Native.Nat.{ℕ}
 use mathlib.Core.Path.{_≡_}
 use mathlib.Core.List.{List}
@@ -15,6 +15,7 @@ use Rattle.format.specs.String.{string, extent, isWhole, stringFault, sa
 use Rattle.format.specs.Segments.{segments, firstSegment, laterSegments, validSegment, allValid}
 use Rattle.format.specs.Header.{headerFault, pathFault, tablesFault}
 use Rattle.format.specs.Record.{nameFault, listFault, recordFault, imageWords}
+use Rattle.format.specs.Notes.{noteFault, displayNameFault, pixelDataFault, rectangleFault, pointsFault, namesFault, metaDataFault, imageDataFault}
 use Rattle.format.specs.Chain.{linkFault, follow, chain, longestBelow}
 use Rattle.format.specs.Answer.{refused}
 use Rattle.format.specs.Call.{check, checkBuckets, firstNamed, searchBucket, queryFault, find, withImages, lookup, foundAnswer, answerWords, directoryFault, directory, directoryPath}
@@ -22,13 +23,16 @@ use Rattle.format.specs.Farm.{farm, looped, sameCheck, sameLookup, sameD
 use Rattle.format.specs.Examples.Caches.{small, none, withField, header, start, bare, hashLast, twoInHeader, named, pathed, undirected, recordLast}
 use Rattle.format.specs.Examples.Tables.{tableExamples, headerExamples}
 use Rattle.format.specs.Examples.Records.{recordExamples, loopExamples, pathExamples}
+use Rattle.format.specs.Examples.Long.{noted, longExamples}
 use Rattle.format.specs.declared.Reading.the-variants.{Short}
 pub mod Caches
 pub mod Tables
 pub mod Records
+pub mod Notes
+pub mod Long
 
-examples-hold : T (all tableExamples && all headerExamples && all recordExamples && all loopExamples && all pathExamples)
-unfolding all holds tableExamples headerExamples recordExamples loopExamples pathExamples small none withField header start bare hashLast twoInHeader named pathed undirected recordLast lent looped put farm cow oat pig sameCheck sameLookup sameDirectory check checkBuckets firstNamed searchBucket queryFault find withImages lookup foundAnswer answerWords directoryFault directory directoryPath linkFault follow chain longestBelow recordFault nameFault listFault imageWords headerFault segments firstSegment laterSegments validSegment allValid pathFault tablesFault _orElse_ firstFault extent string isWhole stringFault sameBytes signed hashFrom hashNumbers hash allowed be
+examples-hold : T (all tableExamples && all headerExamples && all recordExamples && all loopExamples && all pathExamples && all longExamples)
+unfolding all holds tableExamples headerExamples recordExamples loopExamples pathExamples longExamples noted small none withField header start bare hashLast twoInHeader named pathed undirected recordLast lent looped put farm cow oat pig sameCheck sameLookup sameDirectory check checkBuckets firstNamed searchBucket queryFault find withImages lookup foundAnswer answerWords directoryFault directory directoryPath linkFault follow chain longestBelow recordFault nameFault listFault imageDataFault pixelDataFault metaDataFault rectangleFault pointsFault namesFault displayNameFault noteFault imageWords headerFault segments firstSegment laterSegments validSegment allValid pathFault tablesFault _orElse_ firstFault extent string isWhole stringFault sameBytes signed hashFrom hashNumbers hash allowed be
 examples-hold = tt
 
 -- every buffer of 16,777,217 bytes is refused with 2, and of 16,777,216 with 3 where MAJOR is 2

@@ -17,7 +17,7 @@ use Rattle.format.specs.Call.{check, checkBuckets, firstNamed, searchBuc
 use Rattle.format.specs.declared.CheckAnswer.{CheckAnswer}
 use Rattle.format.specs.declared.LookupAnswer.{LookupAnswer}
 use Rattle.format.specs.declared.DirectoryAnswer.{DirectoryAnswer}
-use Rattle.format.specs.declared.Reading.the-variants.{Short}
+use Rattle.format.specs.declared.Reading.the-variants.{Short, Long}
 
 unfoldable pub farm : List ℕ
 farm =
@@ -39,6 +39,7 @@ patched p vs s = put s p vs
 -- a call and what it has to answer
 pub data Example : Type 0 where
   checks : List ℕ → CheckAnswer → Example
+  checksLong : List ℕ → CheckAnswer → Example
   looksUp : List ℕ → List ℕ → List ℕ → LookupAnswer → List ℕ → Example
   names : List ℕ → ℕ → DirectoryAnswer → List ℕ → Example
 
@@ -55,6 +56,7 @@ sameDirectory a b = eqb (a .number) (b .number) && eqb (a .place) (b .place)
 
 unfoldable pub holds : Example → Bool
 holds (checks s a) = sameCheck (check Short s) a
+holds (checksLong s a) = sameCheck (check Long s) a
 holds (looksUp s name words a after) = sameLookup (lookup s name (length words)) a && sameBytes (lookupWords s name words) after
 holds (names s i a path) = sameDirectory (directory s i) a && sameBytes (directoryPath s i) path
 

@@ -97,6 +97,6 @@ textField e = e + 4
 abbrev pub longestString : ℕ
 longestString = 255
 
--- a part with offset 0 is not there; a string has no such offset
+-- a part with offset 0 is not there; for a string 0 is an offset like any other
 abbrev pub there : ℕ → Bool
 there p = not (eqb p 0)

@@ -1,6 +1,6 @@
 -- What is broken first behind an IMAGE_DATA_OFFSET: rules 22 to 24, part by part in source document
 -- 000's order (request 10).
-use Prim.Native.Nat.{ℕ, _+_}
+use Prim.Native.Nat.{ℕ}
 use mathlib.Core.List.{List}
 use mathlib.Core.Bool.{Bool, _&&_}
 use lib.ListN.{drop}

@@ -1,4 +1,5 @@
--- An icon record and its images: document 01's tables, and request 7. Rules 8 to 11, and 17.
+-- An icon record and its images: document 01's tables, and requests 7 and 10. Rules 8 to 11 and 17,
+-- and in the long reading what is behind the images.
 use Prim.Native.Nat.{ℕ, zero, suc, _+_, _*_, _%_}
 use mathlib.Core.List.{List, [], _∷_}
 use mathlib.Core.Bool.{Bool, _&&_}
@@ -66,7 +67,7 @@ imageFault s p = unless (validImage s p) 11 p
 abbrev pub imagesFault : ℕ → List ℕ → ℕ → Fault
 imagesFault m s p = firstFault (imageFault s) (stepOn imageSize) m p
 
--- on the record r of bucket k's chain: rules 8, 17 and 9 (its name), 10 and 11 (its images), all
+-- on the record r of bucket k's chain: rules 8, 17 and 9 (its name), 10 and 11 (its images)
 unfoldable pub nameFault : List ℕ → ℕ → ℕ → Fault
 nameFault s k r =
     stringFault (nameExtent s r) 8 (nameField r)
@@ -77,7 +78,7 @@ listFault s r =
     unless (validImageList s (imagesAt s r)) 10 (imagesField r)
     orElse imagesFault (images s r) s (entriesAt (imagesAt s r))
 
--- and, in the long reading, behind its images
+-- both, and in the long reading rules 22 to 24 behind its images
 unfoldable pub recordFault : Reading → List ℕ → ℕ → ℕ → Fault
 recordFault Short s k r = nameFault s k r orElse listFault s r
 recordFault Long s k r =

@@ -46,7 +46,8 @@ TablesKept s = tablesFault s .number ≡ 0
 
 -- By a reading ρ.
 module _ (ρ : Reading) where
-  -- the record r keeps rules 7 to 11 and 17, as a record of bucket k's chain
+  -- the record r keeps the rules, as a record of bucket k's chain: 7 to 11 and 17, in the long
+  -- reading 22 to 24 too
   pub record Keeps (s : List ℕ) (k r : ℕ) : Type 0 where
     pub inside : Inside s r
     pub rules : recordFault ρ s k r .number ≡ 0
@@ -58,7 +59,7 @@ module _ (ρ : Reading) where
   abbrev pub KeepsBelow : List ℕ → ℕ → ℕ → Type 0
   KeepsBelow s k n = (m : ℕ) → m < n → KeepsAt s k m
 
-  -- the chain of bucket k reaches the end value after n records, its length, and each keeps the rules
+  -- the chain of bucket k reaches the end value after n records, its length; each keeps the rules
   pub record Holds (s : List ℕ) (k n : ℕ) : Type 0 where
     pub keeps : KeepsBelow s k n
     pub ends : link s k n ≡ endValue
@@ -93,6 +94,11 @@ module _ (ρ : Reading) where
   -- the chains of the buckets below k hold, and `len` gives their lengths
   abbrev pub Lengths : List ℕ → ℕ → (ℕ → ℕ) → Type 0
   Lengths s k len = (j : ℕ) → j < k → Holds s j (len j)
+
+  -- the same, and the first n records of bucket k's chain keep the rules
+  pub record Region (s : List ℕ) (len : ℕ → ℕ) (k n : ℕ) : Type 0 where
+    pub below : Lengths s k len
+    pub keeps : KeepsBelow s k n
 
 -- the first n of these lengths added up
 unfoldable pub sum : (ℕ → ℕ) → ℕ → ℕ

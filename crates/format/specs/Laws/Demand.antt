@@ -3,11 +3,10 @@ use Prim.Native.Nat.{ℕ, _-_, _≤_, _<_}
 use mathlib.Core.Path.{_≡_, refl, sym, ap, _∙_}
 use mathlib.Core.Logic.{_↔_, Iff·trans}
 use mathlib.Core.List.{List}
-use mathlib.Core.Bool.{true}
 use native.Mathlib.Nat.{mod-lt}
 use native.Mathlib.Omega.{arith}
 use lib.ListN.{length}
-use Rattle.format.specs.String.{hash, allowed}
+use Rattle.format.specs.String.{hash}
 use Rattle.format.specs.Header.{buckets, bucketField, directories}
 use Rattle.format.specs.Record.{nameOf, bucketOf}
 use Rattle.format.specs.Answer.{accepted, refused}

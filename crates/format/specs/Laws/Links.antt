@@ -10,14 +10,15 @@ use lib.ListN.{length}
 use Rattle.format.specs.Layout.{endValue}
 use Rattle.format.specs.Number.{be}
 use Rattle.format.specs.Record.{nameOf, bucketOf, imagesAt, images}
+use Rattle.format.specs.Chain.{linkFault}
 use Rattle.format.specs.Words.{link, linkField, Keeps, KeepsAt, KeepsBelow, Holds, Breaks, OnChain}
 use Rattle.format.specs.Laws.Below.{le-unless, lt-unless}
-use Rattle.format.specs.Laws.Faults.{same-number}
+use Rattle.format.specs.Laws.Faults.{same-number, orElse-first, orElse-assoc}
 use Rattle.format.specs.Laws.Numbers.{OneOf, linkNumbers}
-use Rattle.format.specs.Laws.Rules.{record-valid, keeps-short}
+use Rattle.format.specs.Laws.Rules.{record-valid, keeps-short, record-long}
 use Rattle.format.specs.Laws.Follow.{link-number, keeps-link}
 use Rattle.format.specs.declared.Reading.{Reading}
-use Rattle.format.specs.declared.Reading.the-variants.{Short}
+use Rattle.format.specs.declared.Reading.the-variants.{Short, Long}
 
 -- two steps below n name one record
 pub record Repeat (s : List ℕ) (k n : ℕ) : Type 0 where
@@ -100,3 +101,16 @@ below-short {ρ} {s} {k} keeps m l =
 
 pub holds-short : {ρ : Reading} {s : List ℕ} {k n : ℕ} → Holds ρ s k n → Holds Short s k n
 holds-short h = record { keeps = below-short (h .keeps); ends = h .ends }
+
+link-long : (s : List ℕ) (k f r : ℕ) → (linkFault Short s k f r .number ≡ 0 → ⊥) → linkFault Long s k f r ≡ linkFault Short s k f r
+unfolding linkFault
+link-long s k f r some = rw (record-long s k r) (sym (orElse-assoc _ _ _) ∙ orElse-first _ _ some)
+
+-- what breaks a rule of the short reading breaks it by the long one
+pub breaks-long : {s : List ℕ} {k n x p : ℕ} → Breaks Short s k n x p → KeepsBelow Long s k n → Breaks Long s k n x p
+breaks-long {s} {k} {n} b keeps = record {
+  keeps = keeps;
+  real = b .real;
+  broken = link-long s k (linkField s k n) (link s k n) (λ z. omega (arith, same-number (b .broken), b .some)) ∙ b .broken;
+  some = b .some;
+}

@@ -22,7 +22,6 @@ use Rattle.format.specs.declared.LookupAnswer.{LookupAnswer}
 use Rattle.format.specs.Laws.Faults.{kept-takes, broken-takes, orElse-none, broken-speaks, kept-passes}
 use Rattle.format.specs.Laws.Numbers.{OneOf, headerNumbers, unless-one, orElse-one, widened}
 use Rattle.format.specs.Laws.Header.{header-valid, header-number}
-use Rattle.format.specs.declared.Reading.the-variants.{Short}
 
 -- what is judged before the search
 module _ (s name : List ℕ) where

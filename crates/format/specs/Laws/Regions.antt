@@ -1,23 +1,17 @@
 -- The first records in the check's order: those of the chains below a bucket, and some of its own.
--- What a long reading makes of records that the short one found sound.
+-- What the long reading makes of records that the short one found sound.
 use Prim.Native.Nat.{ℕ, zero, suc, _+_, _≤_, _<_}
-use mathlib.Core.Path.{_≡_, refl, sym, ap, _∙_}
+use mathlib.Core.Path.{_≡_, refl, sym, ap}
 use mathlib.Core.List.{List}
 use native.Mathlib.Decide.{ℕ-discrete, decLt}
 use native.Mathlib.Omega.{arith}
 use Rattle.format.specs.Layout.{endValue}
 use Rattle.format.specs.Header.{buckets}
-use Rattle.format.specs.Words.{link, KeepsAt, KeepsBelow, Holds, Lengths, sum}
+use Rattle.format.specs.Words.{link, KeepsAt, Holds, Region, sum}
 use Rattle.format.specs.declared.Reading.{Reading}
 use Rattle.format.specs.declared.Reading.the-variants.{Short, Long}
 use Rattle.format.specs.Laws.Links.{keeps-le, before-end, holds-short, below-short}
 use Rattle.format.specs.Laws.Order.{sum-before}
-
--- the chains below bucket k hold, with the lengths `len`, and n records of bucket k's chain keep
--- the rules
-pub record Region (ρ : Reading) (s : List ℕ) (len : ℕ → ℕ) (k n : ℕ) : Type 0 where
-  pub below : Lengths ρ s k len
-  pub keeps : KeepsBelow ρ s k n
 
 -- a chain has one length, by any readings
 pub one-length : {ρ σ : Reading} {s : List ℕ} {k m n : ℕ} → Holds ρ s k m → Holds σ s k n → m ≡ n

@@ -1,14 +1,14 @@
 -- The numbers of the rules on tables and records, which of the rules on tables is broken first, and
 -- what a record that keeps the rules tells.
 use Prim.Native.Nat.{ℕ, _+_, _*_, _≤_}
-use mathlib.Core.Path.{_≡_, refl, _∙_}
+use mathlib.Core.Path.{_≡_, refl, sym, _∙_}
 use mathlib.Core.List.{List}
 use mathlib.Core.Bool.{Bool, true, false, and-eq-true-iff}
 use borrow.Author.Tests.{eqb-true, leb-true}
 use lib.ListN.{length}
 use Rattle.format.specs.Choice.{if_then_else_}
 use Rattle.format.specs.Layout.{entriesAt}
-use Rattle.format.specs.Fault.{noFault}
+use Rattle.format.specs.Fault.{noFault, _orElse_}
 use Rattle.format.specs.String.{isWhole}
 use Rattle.format.specs.ImageData.{there}
 use Rattle.format.specs.Notes.{ifThere, noteFault, displayNameFault, pixelDataFault, rectangleFault, pointsFault, namesFault, metaDataFault, imageDataFault, notesFault}
@@ -17,7 +17,7 @@ use Rattle.format.specs.Record.{nameOf, bucketOf, imagesAt, images, name
 use Rattle.format.specs.declared.Fault.{Fault}
 use Rattle.format.specs.declared.Reading.{Reading}
 use Rattle.format.specs.declared.Reading.the-variants.{Short, Long}
-use Rattle.format.specs.Laws.Faults.{same-number, unless-none, orElse-first, orElse-next, orElse-none}
+use Rattle.format.specs.Laws.Faults.{same-number, unless-none, orElse-first, orElse-next, orElse-none, orElse-assoc}
 use Rattle.format.specs.Laws.Numbers.{OneOf, tablesNumbers, recordNumbers, unless-one, orElse-one, first-one, widened}
 use Rattle.format.specs.Laws.Extents.{string-whole, string-one}
 use Rattle.format.specs.Laws.Header.{header-number}
@@ -83,16 +83,17 @@ unfolding recordFault nameFault listFault
 record-number Short s k r = search (orElse-one, unless-one, first-one, string-one)
 record-number Long s k r = search (orElse-one, unless-one, first-one, string-one, image-data-number)
 
--- what keeps the rules of the long reading keeps those of the short one
-pub keeps-short : (ρ : Reading) (s : List ℕ) (k r : ℕ) → recordFault ρ s k r .number ≡ 0 → recordFault Short s k r .number ≡ 0
+-- the long reading asks what is behind the images after the rules of the short one
+pub record-long : (s : List ℕ) (k r : ℕ) → recordFault Long s k r ≡ recordFault Short s k r orElse notesFault (images s r) s (entriesAt (imagesAt s r))
 unfolding recordFault
-keeps-short Short s k r e = e
-keeps-short Long s k r e = let name = orElse-none _ _ e in same-number (orElse-next _ _ (name .0)) ∙ orElse-none _ _ (name .1) .0
+record-long s k r = sym (orElse-assoc _ _ _)
 
--- of a record that keeps the rules of the short reading, the long one asks what is behind its images
+pub keeps-short : (ρ : Reading) (s : List ℕ) (k r : ℕ) → recordFault ρ s k r .number ≡ 0 → recordFault Short s k r .number ≡ 0
+keeps-short Short s k r e = e
+keeps-short Long s k r e = orElse-none _ _ (sym (same-number (record-long s k r)) ∙ e) .0
+
 pub long-notes : (s : List ℕ) (k r : ℕ) → recordFault Short s k r .number ≡ 0 → recordFault Long s k r ≡ notesFault (images s r) s (entriesAt (imagesAt s r))
-unfolding recordFault
-long-notes s k r e = let kept = orElse-none _ _ e in orElse-next _ _ (kept .0) ∙ orElse-next _ _ (kept .1)
+long-notes s k r e = record-long s k r ∙ orElse-next _ _ e
 
 pub record-valid : (ρ : Reading) (s : List ℕ) (k r : ℕ) → recordFault ρ s k r .number ≡ 0 → ValidRecord s k r
 unfolding recordFault nameFault listFault

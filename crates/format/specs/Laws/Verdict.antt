@@ -35,7 +35,7 @@ pub turns-keep : {ρ : Reading} {s : List ℕ} {k : ℕ} → Turns ρ s k → (n
 turns-keep t n = (t .endless n .0, t .keeps n)
 
 -- a chain with more records that keep the rules than there can be goes on for ever
-endless : {ρ : Reading} {s : List ℕ} {k : ℕ} (len : ℕ → ℕ) → Lengths ρ s k len → KeepsBelow ρ s k (suc (mostRecords s - sum len k)) → (n : ℕ) → KeepsAt ρ s k n
+pub endless : {ρ : Reading} {s : List ℕ} {k : ℕ} (len : ℕ → ℕ) → Lengths ρ s k len → KeepsBelow ρ s k (suc (mostRecords s - sum len k)) → (n : ℕ) → KeepsAt ρ s k n
 endless {s} {k} len h keeps = let (xs, a, e) = chains len k h in round (repeats a (omega arith) keeps) keeps
 
 module _ (ρ : Reading) (s : List ℕ) (tables-kept : TablesKept s) where
