@@ -1,6 +1,8 @@
 // Prints one line for each answer: the case, the call, and every number that the call gives.
 use flags::FlagsAnswer;
+use format::CheckAnswer;
 use format::LookupAnswer;
+use format::Reading;
 use libc::STDOUT_FILENO;
 use listing::Position;
 
@@ -23,14 +25,19 @@ pub fn begin(case: &[u8], call: &[u8], number: u32, place: usize) {
     count(b" at ", place);
 }
 
-pub fn check(case: &[u8], cache: &[u8]) {
-    let answer = icon_cache::check(cache);
-    begin(case, b": check ", answer.number, answer.place);
+// The line of a check, of which `call` says the reading.
+pub fn checked(case: &[u8], call: &[u8], answer: CheckAnswer) {
+    begin(case, call, answer.number, answer.place);
     count(b", directories ", answer.directories);
     count(b", icons ", answer.icons);
     count(b", opened ", answer.opened);
     count(b", longest ", answer.longest);
     end();
+}
+
+pub fn check(case: &[u8], cache: &[u8]) {
+    let answer = icon_cache::check(cache, Reading::Short);
+    checked(case, b": check ", answer);
 }
 
 // The line of a lookup, left open for what is to be said of its words.

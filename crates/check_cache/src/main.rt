@@ -2,6 +2,7 @@
 ghost use mathlib.Core.Path.{_≡_};
 ghost use Rattle.check_cache.specs.Line.{lineOf, lineFor};
 use format::CheckAnswer;
+use format::Reading;
 use libc::STDIN_FILENO;
 use libc::STDOUT_FILENO;
 
@@ -49,7 +50,7 @@ fn line_for(input: &[u8]) -> Line
     if LARGEST < input.len() {
         Line::TooLarge
     } else {
-        line_of(icon_cache::check(input))
+        line_of(icon_cache::check(input, Reading::Short))
     }
 }
 

@@ -56,7 +56,7 @@ pub fn catalogue_of(cache: &[u8], catalogue: &mut [u8]) -> WriteAnswer
     ensures answer { λ r. ⌜ r ≡ catalogueOf (now (cache .entry)) (length (now (catalogue .entry))) ⌝ }
     ensures lent { λ _. ⌜ now (catalogue .exit) ≡ catalogueLeaves (now (cache .entry)) (now (catalogue .entry)) ⌝ }
 {
-    let check = icon_cache::check(cache);
+    let check = icon_cache::check_short(cache);
     if check.number != 0 {
         return refusal(check.number, check.place);
     }

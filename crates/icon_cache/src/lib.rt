@@ -8,7 +8,7 @@ ghost use Rattle.format.specs.Answer.{partIs};
 ghost use Rattle.format.specs.Call.{foundAnswer, answerWords, lookupWords, directoryPart, directoryPath};
 ghost use Rattle.format.specs.Call as calls;
 ghost use Rattle.format.specs.Demand.{CheckDemand, LookupKept, LongestDemand, OpensWithin};
-ghost use Rattle.format.specs.declared.Reading.the-variants.{Short};
+ghost use Rattle.format.specs.declared.Reading.the-variants.{Short, Long};
 use bigendian::u32_at;
 use checking::check_buckets;
 use checking::refused;
@@ -19,9 +19,11 @@ use format::DirectoryPart;
 use format::Fault;
 use format::Found;
 use format::LookupAnswer;
+use format::Reading;
 
-// Checks the whole cache: accepted with its counts, or the first broken rule with its place.
-pub fn check(cache: &[u8]) -> CheckAnswer
+// The check by the short reading. It is a call of its own so that it carries nothing of the long
+// one.
+pub fn check_short(cache: &[u8]) -> CheckAnswer
     ensures answer { λ r. ⌜ r ≡ calls.check Short (now (cache .entry)) ⌝ }
     ensures demand { λ r. ⌜ CheckDemand Short (now (cache .entry)) r ⌝ }
     ensures longest { λ r. ⌜ LongestDemand Short (now (cache .entry)) r ⌝ }
@@ -36,6 +38,29 @@ pub fn check(cache: &[u8]) -> CheckAnswer
         return refused(paths.number, paths.place, 0);
     }
     check_buckets(cache, t)
+}
+
+// The check by the long reading: what the short one found sound is gone over once more.
+pub fn check_long(cache: &[u8]) -> CheckAnswer
+    ensures answer { λ r. ⌜ r ≡ calls.check Long (now (cache .entry)) ⌝ }
+    ensures demand { λ r. ⌜ CheckDemand Long (now (cache .entry)) r ⌝ }
+    ensures longest { λ r. ⌜ LongestDemand Long (now (cache .entry)) r ⌝ }
+{
+    let short = check_short(cache);
+    long_check::check(cache, short)
+}
+
+// Checks the whole cache by a reading: accepted with its counts, or the first broken rule with its
+// place.
+pub fn check(cache: &[u8], reading: Reading) -> CheckAnswer
+    ensures answer { λ r. ⌜ r ≡ calls.check reading (now (cache .entry)) ⌝ }
+    ensures demand { λ r. ⌜ CheckDemand reading (now (cache .entry)) r ⌝ }
+    ensures longest { λ r. ⌜ LongestDemand reading (now (cache .entry)) r ⌝ }
+{
+    match reading {
+        Reading::Short => check_short(cache),
+        Reading::Long => check_long(cache),
+    }
 }
 
 // The first record that bears `name` on the chain of the name's bucket alone, without its images.

@@ -17,18 +17,18 @@ use Rattle.export.proofs.catalogue_of.Tie as tie
 returns : tie.Need-returns
 returns c =
     let checked = c .before .before .before in
-    let told = check-refuses _ _ (checked .check .ensures .0) (c .before .if1 .taken) in
+    let told = check-refuses _ _ (checked .check-short .ensures .0) (c .before .if1 .taken) in
     (c .refusal .ensures ∙ told .0, told .1)
 
 accepted : (c : tie.Else1) → Accepted Short (now (c .before .before .before .before .before .args .cache))
-accepted c = c .before .before .check .ensures .1 .0 .accepted .0 (c .if1 .left)
+accepted c = c .before .before .check-short .ensures .1 .0 .accepted .0 (c .if1 .left)
 
 list-requires : tie.Need-list-requires
 list-requires c κs =
     let read = c .before .before in
     let kept = read .before in
     let checked = kept .before .before in
-    let icons = ap (λ (a : CheckAnswer). a .icons) (checked .check .ensures .0) ∙ sym (pages (now (checked .before .before .before .args .cache)) .as-many (accepted kept)) in
+    let icons = ap (λ (a : CheckAnswer). a .icons) (checked .check-short .ensures .0) ∙ sym (pages (now (checked .before .before .before .args .cache)) .as-many (accepted kept)) in
     (record { tables = read .read .ensures; accepted = accepted kept }, icons, omega (arith, length-replicate {A = ℕ} 65536 0))
 
 pub catalogue-of-spec : {M : Type 1} → statement M
