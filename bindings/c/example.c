@@ -1,7 +1,7 @@
 /*
- * Checks a cache, prints the images of one icon, each with its directory and flags, two short pages
- * of the icons, and which image of the icon is picked for some sizes, and lists the cache as a
- * catalogue and writes it again: example CACHE NAME
+ * Checks a cache in both ways, prints the images of one icon, each with its directory, flags and
+ * notes, two short pages of the icons, and which image of the icon is picked for some sizes, and
+ * lists the cache as a catalogue and writes it again: example CACHE NAME
  */
 #include "icon_cache.h"
 
@@ -55,6 +55,15 @@ static int check(void)
     return 0;
 }
 
+/* The image data of all images is judged too. On a stranger's cache this may take days. */
+static void check_long(void)
+{
+    size_t place, directories, icons, opened, longest;
+    uint32_t number = icon_cache_check_long(cache, cache_len, &place, &directories, &icons,
+                                            &opened, &longest);
+    printf("long check: answer %u at %zu, %zu opened\n", (unsigned)number, place, opened);
+}
+
 /* The call for the path doesn't say where a bad one stands; the other call does. */
 static void print_directory(size_t index)
 {
@@ -97,6 +106,60 @@ static void print_flags(uint16_t raw)
     print_names(from_gtk);
 }
 
+/* After the last note comes 33: there is no such note, or no further one. */
+static void say_end(uint32_t number, size_t place)
+{
+    if (number != 0 && number != 33) {
+        printf("    answer %u at %zu\n", (unsigned)number, place);
+    }
+}
+
+static void print_rectangle(size_t data)
+{
+    size_t place;
+    uint16_t x0, y0, x1, y1;
+    uint32_t number = icon_cache_rectangle(cache, cache_len, data, &place, &x0, &y0, &x1, &y1);
+    if (number == 0) {
+        printf("    rectangle %u,%u to %u,%u\n",
+               (unsigned)x0, (unsigned)y0, (unsigned)x1, (unsigned)y1);
+    }
+    say_end(number, place);
+}
+
+static void print_attach_points(size_t data)
+{
+    size_t place, entry = 0;
+    uint16_t x, y;
+    uint32_t number;
+    while ((number = icon_cache_attach_point(cache, cache_len, data, entry, &place, &x, &y)) == 0) {
+        printf("    attach point %u,%u\n", (unsigned)x, (unsigned)y);
+        entry++;
+    }
+    say_end(number, place);
+}
+
+/* The language is judged by one call and the name by the other. */
+static void print_display_names(size_t data)
+{
+    size_t place, start, length;
+    uint32_t number;
+    for (size_t entry = 0;; entry++) {
+        number = icon_cache_display_language(cache, cache_len, data, entry, &place, &start,
+                                             &length);
+        if (number != 0) {
+            break;
+        }
+        printf("    display name in %.*s: ", (int)length, (const char *)cache + start);
+        number = icon_cache_display_name(cache, cache_len, data, entry, &place, &start, &length);
+        if (number == 0) {
+            printf("%.*s\n", (int)length, (const char *)cache + start);
+        } else {
+            printf("answer %u at %zu\n", (unsigned)number, place);
+        }
+    }
+    say_end(number, place);
+}
+
 /*
  * Only the records that the lookup meets are judged, so it may find a name in a cache that the
  * check refuses.
@@ -115,7 +178,11 @@ static int lookup(const char *name)
         uint32_t first = words[2 * i];
         print_directory(first / 65536);
         print_flags((uint16_t)(first % 65536));
-        printf(", data at %u\n", (unsigned)words[2 * i + 1]);
+        size_t data = words[2 * i + 1];
+        printf(", data at %zu\n", data);
+        print_rectangle(data);
+        print_attach_points(data);
+        print_display_names(data);
     }
     return 0;
 }
@@ -251,6 +318,7 @@ int main(int argc, char **argv)
         return 2;
     }
     int refused = check();
+    check_long();
     int not_found = lookup(argv[2]);
     list(); /* what it refuses, the check has refused too */
     pick_some(argv[2]);

@@ -41,6 +41,13 @@
  *                                                       catalogue; record + 4
  *                                                       in a cache
  *   21  more than 65,535 icons                   place: 0
+ *   22  a part of an image's data is not wholly  place: the field that names
+ *       inside, or is a list of more than               it, or 0 for `data`
+ *       1,024 entries
+ *   23  the type of pixel data is not 0          place: the field that names
+ *                                                       the pixel data
+ *   24  a language or a display name is empty,   place: the field that names
+ *       too long or runs off the end                    it
  *   26  the position names no bucket, or its     place: 0
  *       count is more than the length less 11
  *   27  the flags are above 15, or the           place: 0
@@ -50,11 +57,14 @@
  *   31  not six words for each directory         place: 0
  *   32  a type above 2                           place: the word's index in
  *                                                       `directories`
+ *   33  the image's data has no such part or     place: 0
+ *       entry
  *
- * A name is too long from 256 bytes on, a path from 1,024 on. Either runs off
- * the end, as in a cache that was cut short, if the cache ends before the
- * string's zero byte and before the string is too long; so does one that begins
- * at the end or beyond. On a path 17 is judged before the "/" of 6.
+ * A name, a language or a display name is too long from 256 bytes on, a path
+ * from 1,024 on. Each runs off the end, as in a cache that was cut short, if the
+ * cache ends before the string's zero byte and before the string is too long; so
+ * does one that begins at the end or beyond. On a path 17 is judged before the
+ * "/" of 6.
  *
  * What the caller owes:
  *  - a pointer that comes with a length points to that many bytes or words, and
@@ -65,7 +75,7 @@
  *    read too, so a number stands in both.
  * Nothing is kept after a call returns, and nothing is allocated.
  * icon_cache_write and icon_cache_catalogue take up to 300 KiB of stack, for an
- * index of names or records; no other call takes more than 600 bytes. Calls on
+ * index of names or records; no other call takes more than 700 bytes. Calls on
  * different outputs may run at the same time.
  */
 #ifndef ICON_CACHE_H
@@ -94,6 +104,79 @@ extern "C" {
 uint32_t icon_cache_check(const uint8_t *cache, size_t cache_len,
                           size_t *place, size_t *directories, size_t *icons,
                           size_t *opened, size_t *longest);
+
+/*
+ * The same check, and behind each image's data offset too. In the order of the
+ * check, on each record that keeps 7 to 11 and 17, each image in turn is judged
+ * part by part. A part is not there if its offset is 0; a string always is.
+ *
+ *    22  image data is not wholly inside, at the image + 4
+ *    22  pixel data is not wholly inside, at the field that names it
+ *    23  the type of pixel data is not 0, at the same field
+ *    22  meta data, the rectangle, the list of attach points or that of display
+ *        names is not wholly inside, or a list has more than 1,024 entries, at
+ *        the field that names it
+ *    24  the language or the text of a display name is empty, longer than 255
+ *        bytes or without a zero byte, at the field that names it
+ *
+ * *opened counts the record. 12 is said only of a chain whose records keep
+ * these rules too. What this check accepts, icon_cache_check accepts with the
+ * same numbers.
+ *
+ * Records may share a list, images their data and entries their strings, and
+ * each is judged as often as it is named. So a cache that was made to cost time
+ * costs far more than in icon_cache_check: 4 KiB can take a second, 8 KiB ten,
+ * 64 KiB half an hour and 16 MiB some days. No limit of length is of much use:
+ * judge what strangers made in a process that can be stopped after some time. Of
+ * real caches, Tango's takes 1.23 times the instructions of the other check.
+ */
+uint32_t icon_cache_check_long(const uint8_t *cache, size_t cache_len,
+                               size_t *place, size_t *directories,
+                               size_t *icons, size_t *opened, size_t *longest);
+
+/*
+ * The notes on an image: a rectangle for text, points to attach emblems to, and
+ * names to display, each with its language. `data` is the offset of the image's
+ * data, as a lookup gives it, and `entry` counts from 0 on. Both may be any
+ * numbers. 33 says that there is no such entry and no further one; 24 is of one
+ * string, and the next entry may be asked for; after any other number but 0
+ * there is none to be had.
+ *
+ * icon_cache_rectangle and icon_cache_attach_point give numbers as they stand
+ * in the cache. icon_cache_display_language and icon_cache_display_name give
+ * the *length bytes of the cache from *start on, 1 to 255 of them, without the
+ * zero byte after them. With any number but 0 all that is given is 0.
+ *
+ * In this order they refuse
+ *
+ *     1  and 2, as the check does; the version and the tables are not judged
+ *    33  `data` is 0: the image has no data
+ *    22  the image data is not wholly inside, at 0
+ *    33  there is no meta data
+ *    22  the meta data is not wholly inside, at `data` + 4
+ *    33  there is no rectangle, or no such list
+ *    22  the rectangle or the list is not wholly inside, or the list has more
+ *        than 1,024 entries, at the field that names it
+ *    33  the list has no entry `entry`
+ *    24  the string asked for is empty, longer than 255 bytes or without a zero
+ *        byte, at the field of the entry that names it
+ *
+ * Pixel data is not judged, nor is any other string. No call takes longer than
+ * to read its 256 bytes.
+ */
+uint32_t icon_cache_rectangle(const uint8_t *cache, size_t cache_len,
+                              size_t data, size_t *place,
+                              uint16_t *x0, uint16_t *y0,
+                              uint16_t *x1, uint16_t *y1);
+uint32_t icon_cache_attach_point(const uint8_t *cache, size_t cache_len,
+                                 size_t data, size_t entry,
+                                 size_t *place, uint16_t *x, uint16_t *y);
+uint32_t icon_cache_display_language(const uint8_t *cache, size_t cache_len,
+                                     size_t data, size_t entry, size_t *place,
+                                     size_t *start, size_t *length);
+uint32_t icon_cache_display_name(const uint8_t *cache, size_t cache_len,
+                                 size_t data, size_t entry, size_t *place,
+                                 size_t *start, size_t *length);
 
 /*
  * Looks for the icon `name`. With 0, two words for each of the *images images
@@ -229,8 +312,9 @@ uint32_t icon_cache_pick(const uint8_t *cache, size_t cache_len,
  * follows the last icon. No two icons have one name; paths may be equal.
  *
  * The offset of an image's data is handed on as it is, from a cache and into
- * one, but the data is not: gtk-update-icon-cache --validate refuses a written
- * Tango for its offsets, and accepts it with 0 in their place.
+ * one, but the data is not: icon_cache_check_long refuses a written Tango for
+ * its offsets, as gtk-update-icon-cache --validate does, and both accept it with
+ * 0 in their place.
  *
  * icon_cache_write writes the cache of a catalogue with so many buckets:
  * header, hash, records, image lists, directory list and strings, in the

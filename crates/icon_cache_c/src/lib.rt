@@ -6,12 +6,33 @@ ghost use mathlib.Core.Path.{_≡_};
 ghost use lib.ListN.{length};
 ghost use Rattle.format.specs.Answer.{checked, lookedUp, directoryIs, partIs};
 ghost use Rattle.format.specs.Call.{check, lookup, lookupWords, directory, directoryPart};
-ghost use Rattle.format.specs.declared.Reading.the-variants.{Short};
+ghost use Rattle.format.specs.declared.Reading.the-variants.{Short, Long};
 ghost use Rattle.pick.specs.Pick.{pickIs, pick};
 ghost use Rattle.listing.specs.Listing.{position, step, stepIs};
 ghost use Rattle.flags.specs.Flags.{flagsIs, flagsIn, flagsOut};
+ghost use Rattle.image_data.specs.Call.{rectangleIs, pointIs, stringIs, rectangle, attachPoint, displayLanguage, displayText};
 ghost use Rattle.catalogue.specs.Call.{writeIs, write, writeLeaves, catalogueOf, catalogueLeaves};
+use format::CheckAnswer;
 use listing::Position;
+
+// Hands on an answer of the check.
+fn hand_on(
+    answer: CheckAnswer,
+    place: &mut usize,
+    directories: &mut usize,
+    icons: &mut usize,
+    opened: &mut usize,
+    longest: &mut usize,
+) -> u32
+    ensures { λ r. ⌜ checked r (now (place .exit)) (now (directories .exit)) (now (icons .exit)) (now (opened .exit)) (now (longest .exit)) ≡ answer ⌝ }
+{
+    *place = answer.place;
+    *directories = answer.directories;
+    *icons = answer.icons;
+    *opened = answer.opened;
+    *longest = answer.longest;
+    answer.number
+}
 
 #[no_mangle]
 pub extern "C" fn icon_cache_check(
@@ -24,13 +45,23 @@ pub extern "C" fn icon_cache_check(
 ) -> u32
     ensures { λ r. ⌜ checked r (now (place .exit)) (now (directories .exit)) (now (icons .exit)) (now (opened .exit)) (now (longest .exit)) ≡ check Short (now (cache .entry)) ⌝ }
 {
-    let answer = icon_cache::check(cache);
-    *place = answer.place;
-    *directories = answer.directories;
-    *icons = answer.icons;
-    *opened = answer.opened;
-    *longest = answer.longest;
-    answer.number
+    let answer = icon_cache::check_short(cache);
+    hand_on(answer, place, directories, icons, opened, longest)
+}
+
+#[no_mangle]
+pub extern "C" fn icon_cache_check_long(
+    cache: &[u8],
+    place: &mut usize,
+    directories: &mut usize,
+    icons: &mut usize,
+    opened: &mut usize,
+    longest: &mut usize,
+) -> u32
+    ensures { λ r. ⌜ checked r (now (place .exit)) (now (directories .exit)) (now (icons .exit)) (now (opened .exit)) (now (longest .exit)) ≡ check Long (now (cache .entry)) ⌝ }
+{
+    let answer = icon_cache::check_long(cache);
+    hand_on(answer, place, directories, icons, opened, longest)
 }
 
 #[no_mangle]
@@ -89,6 +120,81 @@ pub extern "C" fn icon_cache_directory_path(
     let answer = icon_cache::directory_part(cache, index);
     *start = answer.start;
     *path_length = answer.length;
+    answer.number
+}
+
+#[no_mangle]
+pub extern "C" fn icon_cache_rectangle(
+    cache: &[u8],
+    data: usize,
+    place: &mut usize,
+    x0: &mut u16,
+    y0: &mut u16,
+    x1: &mut u16,
+    y1: &mut u16,
+) -> u32
+    ensures { λ r. ⌜ rectangleIs r (now (place .exit)) (now (x0 .exit)) (now (y0 .exit)) (now (x1 .exit)) (now (y1 .exit)) ≡ rectangle (now (cache .entry)) «data» ⌝ }
+{
+    let answer = image_data::rectangle(cache, data);
+    *place = answer.place;
+    *x0 = answer.x0;
+    *y0 = answer.y0;
+    *x1 = answer.x1;
+    *y1 = answer.y1;
+    answer.number
+}
+
+#[no_mangle]
+pub extern "C" fn icon_cache_attach_point(
+    cache: &[u8],
+    data: usize,
+    entry: usize,
+    place: &mut usize,
+    x: &mut u16,
+    y: &mut u16,
+) -> u32
+    ensures { λ r. ⌜ pointIs r (now (place .exit)) (now (x .exit)) (now (y .exit)) ≡ attachPoint (now (cache .entry)) «data» entry ⌝ }
+{
+    let answer = image_data::attach_point(cache, data, entry);
+    *place = answer.place;
+    *x = answer.x;
+    *y = answer.y;
+    answer.number
+}
+
+#[no_mangle]
+pub extern "C" fn icon_cache_display_language(
+    cache: &[u8],
+    data: usize,
+    entry: usize,
+    place: &mut usize,
+    start: &mut usize,
+    text_length: &mut usize,
+) -> u32
+    ensures { λ r. ⌜ stringIs r (now (place .exit)) (now (start .exit)) (now («text_length» .exit)) ≡ displayLanguage (now (cache .entry)) «data» entry ⌝ }
+{
+    let answer = image_data::display_language(cache, data, entry);
+    *place = answer.place;
+    *start = answer.start;
+    *text_length = answer.length;
+    answer.number
+}
+
+#[no_mangle]
+pub extern "C" fn icon_cache_display_name(
+    cache: &[u8],
+    data: usize,
+    entry: usize,
+    place: &mut usize,
+    start: &mut usize,
+    text_length: &mut usize,
+) -> u32
+    ensures { λ r. ⌜ stringIs r (now (place .exit)) (now (start .exit)) (now («text_length» .exit)) ≡ displayText (now (cache .entry)) «data» entry ⌝ }
+{
+    let answer = image_data::display_name(cache, data, entry);
+    *place = answer.place;
+    *start = answer.start;
+    *text_length = answer.length;
     answer.number
 }
 
