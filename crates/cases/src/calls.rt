@@ -3,6 +3,7 @@ use crate::answers;
 use crate::catalogues;
 use crate::icons;
 use crate::images;
+use crate::notes;
 use crate::picks;
 use cases_made::script;
 use cases_made::script::Words;
@@ -38,9 +39,11 @@ pub fn ask(case: &[u8], line: &[u8], w: Words, buffer: &[u8], length: usize) {
         b'e' => icons::ask(case, cache),
         b'g' => catalogues::list(case, cache, w.a, buffer),
         b'h' => answers::hash(case, script::rest(cache, w.a)),
+        b'j' => notes::check(case, cache),
         b'm' => catalogues::write(case, cache, w.a, w.b, buffer),
         b'n' => answers::flags(w.a, w.b),
         b's' => step(case, cache, w.a, w.b),
+        b'v' => notes::view(case, cache, w.a, w.b),
         _ => {}
     }
 }

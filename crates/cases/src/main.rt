@@ -6,6 +6,7 @@ mod calls;
 mod catalogues;
 mod icons;
 mod images;
+mod notes;
 mod picks;
 
 use cases_made::Lengths;
