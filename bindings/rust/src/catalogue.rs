@@ -14,8 +14,9 @@ use crate::{raw, Image, Refusal, LARGEST};
 /// No text holds a zero byte, and paths keep the rules of [`directory`]. An image names
 /// one of the directories, or [`Image::NO_DIRECTORY`] where there are none, and its
 /// flags are at most 15. No two icons have one name. An image's offset may be any
-/// number and is handed on as it is; the data is not, and a program that follows the
-/// offset, as `gtk-update-icon-cache --validate`, may refuse the cache.
+/// number and is handed on as it is; the data is not, and what follows the offset, as
+/// [`check_long`](crate::check_long) and `gtk-update-icon-cache --validate` do, may
+/// refuse the cache.
 ///
 /// ```
 /// use icon_cache::{check, lookup, write, Catalogue, Icon, Image};

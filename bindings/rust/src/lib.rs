@@ -1,7 +1,8 @@
 //! Reads and writes icon theme caches (`icon-theme.cache`).
 //!
 //! The cache is a lent byte slice; nothing in it is trusted. [`check`] judges
-//! the whole cache, [`lookup`] finds the images of one icon name, [`directory`]
+//! the whole cache, [`check_long`] also what is noted on its images, and the module
+//! [`notes`] reads that. [`lookup`] finds the images of one icon name, [`directory`]
 //! gives the path of one directory index, [`records`] hands back all icon records,
 //! and [`records_from`] those from a [`Position`] on. [`Flags`] names the flags of
 //! an image by the [`Numbering`] of the cache's generator. [`pick`] chooses the
@@ -32,6 +33,7 @@ mod catalogue;
 mod farm;
 mod field;
 mod flags;
+pub mod notes;
 mod pick;
 pub mod raw;
 mod records;
@@ -88,7 +90,8 @@ pub struct Image {
     /// The sum of its flags, 0 to 15, as it stands in the cache. Which flags they
     /// are depends on the generator: [`Flags::from_raw`] takes a [`Numbering`].
     pub flags: u16,
-    /// The offset of its image data, as it stands in the cache.
+    /// The offset of its image data, as it stands in the cache; [`notes`] reads what is
+    /// there.
     pub data_offset: u32,
 }
 
@@ -132,7 +135,37 @@ pub struct Found {
 /// assert_eq!(refusal.to_string(), "the chain of this bucket never ends");
 /// ```
 pub fn check(cache: &[u8]) -> Result<Checked, Refusal> {
-    let answer = raw::check(cache);
+    checked(raw::check(cache))
+}
+
+/// Checks the whole cache, and what stands behind its images' data offsets: pixel data,
+/// and what [`notes`] reads. What [`check`] refuses is refused here too, by the same
+/// rule unless the data of an image breaks one before it; what this check accepts,
+/// [`check`] accepts with the same numbers.
+///
+/// Records may share an image list, images their data and entries their strings, and
+/// each is judged as often as it is named. So a cache that was made to cost time costs
+/// far more than it costs [`check`]: 4 KiB can take a second, 8 KiB ten, 64 KiB half an
+/// hour and 16 MiB some days. No limit of length is of much use: judge what strangers
+/// made in a process that can be stopped after some time.
+///
+/// ```
+/// use icon_cache::{check, check_long, Refusal, FARM_CACHE};
+///
+/// assert_eq!(check_long(FARM_CACHE), check(FARM_CACHE));
+///
+/// // Of the image data at 120 six bytes are there.
+/// let mut cache = FARM_CACHE.to_vec();
+/// cache[72..76].copy_from_slice(&120u32.to_be_bytes());
+/// let refusal = check_long(&cache).unwrap_err();
+/// assert_eq!((refusal.number, refusal.place), (Refusal::BAD_IMAGE_DATA, 72));
+/// assert!(check(&cache).is_ok());
+/// ```
+pub fn check_long(cache: &[u8]) -> Result<Checked, Refusal> {
+    checked(raw::check_long(cache))
+}
+
+fn checked(answer: raw::Check) -> Result<Checked, Refusal> {
     match answer.number {
         0 => Ok(Checked {
             directories: answer.directories,

@@ -2,7 +2,7 @@
 //! Nothing is allocated; found images go into the words lent, and what is written
 //! goes into the bytes lent.
 
-/// The answer of [`check`].
+/// The answer of [`check`] and [`check_long`].
 #[derive(Clone, Copy, Debug, PartialEq, Eq)]
 pub struct Check {
     /// The answer number, 0 for an accepted cache.
@@ -108,6 +108,50 @@ pub struct Pick {
     pub place: usize,
 }
 
+/// The answer of [`rectangle`]: its corners, 0 with a refusal.
+#[derive(Clone, Copy, Debug, PartialEq, Eq)]
+pub struct Rectangle {
+    /// The answer number, 0 for a rectangle.
+    pub number: u32,
+    /// The offset of the fault, or 0.
+    pub place: usize,
+    /// The left edge.
+    pub x0: u16,
+    /// The upper edge.
+    pub y0: u16,
+    /// The right edge.
+    pub x1: u16,
+    /// The lower edge.
+    pub y1: u16,
+}
+
+/// The answer of [`attach_point`]: the point, 0 and 0 with a refusal.
+#[derive(Clone, Copy, Debug, PartialEq, Eq)]
+pub struct AttachPoint {
+    /// The answer number, 0 for a point.
+    pub number: u32,
+    /// The offset of the fault, or 0.
+    pub place: usize,
+    /// How far it is from the left edge.
+    pub x: u16,
+    /// How far it is from the upper edge.
+    pub y: u16,
+}
+
+/// The answer of [`display_language`] and [`display_name`]: a part of the cache, empty
+/// with a refusal.
+#[derive(Clone, Copy, Debug, PartialEq, Eq)]
+pub struct Text {
+    /// The answer number, 0 for a string.
+    pub number: u32,
+    /// The offset of the fault, or 0.
+    pub place: usize,
+    /// The offset of the string's first byte.
+    pub start: usize,
+    /// The string's length, without the zero byte.
+    pub length: usize,
+}
+
 /// The answer of [`write`] and [`catalogue_of`].
 #[derive(Clone, Copy, Debug, PartialEq, Eq)]
 pub struct Written {
@@ -129,6 +173,57 @@ mod c {
             icons: *mut usize,
             opened: *mut usize,
             longest: *mut usize,
+        ) -> u32;
+
+        pub fn icon_cache_check_long(
+            cache: *const u8,
+            cache_len: usize,
+            place: *mut usize,
+            directories: *mut usize,
+            icons: *mut usize,
+            opened: *mut usize,
+            longest: *mut usize,
+        ) -> u32;
+
+        pub fn icon_cache_rectangle(
+            cache: *const u8,
+            cache_len: usize,
+            data: usize,
+            place: *mut usize,
+            x0: *mut u16,
+            y0: *mut u16,
+            x1: *mut u16,
+            y1: *mut u16,
+        ) -> u32;
+
+        pub fn icon_cache_attach_point(
+            cache: *const u8,
+            cache_len: usize,
+            data: usize,
+            entry: usize,
+            place: *mut usize,
+            x: *mut u16,
+            y: *mut u16,
+        ) -> u32;
+
+        pub fn icon_cache_display_language(
+            cache: *const u8,
+            cache_len: usize,
+            data: usize,
+            entry: usize,
+            place: *mut usize,
+            start: *mut usize,
+            length: *mut usize,
+        ) -> u32;
+
+        pub fn icon_cache_display_name(
+            cache: *const u8,
+            cache_len: usize,
+            data: usize,
+            entry: usize,
+            place: *mut usize,
+            start: *mut usize,
+            length: *mut usize,
         ) -> u32;
 
         pub fn icon_cache_lookup(
@@ -204,9 +299,10 @@ mod c {
     }
 }
 
-/// No call answers these values, so a value that was not written shows.
+/// A value that was not written shows: no call answers the long one, and the short one is
+/// answered only as the corner or the point that is given.
 const UNWRITTEN: usize = usize::MAX;
-const UNWRITTEN_FLAGS: u16 = u16::MAX;
+const UNWRITTEN_SHORT: u16 = u16::MAX;
 
 /// The address of the bytes. That of an empty slice may dangle, so C code is
 /// handed the address of a real byte instead.
@@ -232,9 +328,31 @@ fn lent_address(bytes: &mut [u8], no_bytes: &mut u8) -> *mut u8 {
 // struct: where the compiler copies a struct by parts wider than those that were
 // written, the processor waits for the writes.
 
+/// A check of the library: `icon_cache_check` or `icon_cache_check_long`.
+type CheckCall = unsafe extern "C" fn(
+    cache: *const u8,
+    cache_len: usize,
+    place: *mut usize,
+    directories: *mut usize,
+    icons: *mut usize,
+    opened: *mut usize,
+    longest: *mut usize,
+) -> u32;
+
 /// Checks the whole cache.
 #[inline]
 pub fn check(cache: &[u8]) -> Check {
+    check_by(c::icon_cache_check, cache)
+}
+
+/// Checks the whole cache, and what stands behind its images' data offsets.
+#[inline]
+pub fn check_long(cache: &[u8]) -> Check {
+    check_by(c::icon_cache_check_long, cache)
+}
+
+#[inline(always)]
+fn check_by(call: CheckCall, cache: &[u8]) -> Check {
     let mut place = UNWRITTEN;
     let mut directories = UNWRITTEN;
     let mut icons = UNWRITTEN;
@@ -243,7 +361,7 @@ pub fn check(cache: &[u8]) -> Check {
     // SAFETY: the pointers are valid for the lengths given and for this call,
     // and only the five numbers are written.
     let number = unsafe {
-        c::icon_cache_check(
+        call(
             address(cache),
             cache.len(),
             &mut place,
@@ -361,7 +479,7 @@ pub fn list(cache: &[u8], position: Position) -> Step {
 /// 15.
 #[inline]
 pub fn flags_in(raw: u16, numbering: u32) -> Renumbered {
-    let mut flags = UNWRITTEN_FLAGS;
+    let mut flags = UNWRITTEN_SHORT;
     // SAFETY: the pointer is valid for this call, and only the flags are written.
     let number = unsafe { c::icon_cache_flags_in(raw, numbering, &mut flags) };
     Renumbered { number, flags }
@@ -371,7 +489,7 @@ pub fn flags_in(raw: u16, numbering: u32) -> Renumbered {
 /// [`flags_in`], which refuses the same.
 #[inline]
 pub fn flags_out(flags: u16, numbering: u32) -> Renumbered {
-    let mut raw = UNWRITTEN_FLAGS;
+    let mut raw = UNWRITTEN_SHORT;
     // SAFETY: the pointer is valid for this call, and only the flags are written.
     let number = unsafe { c::icon_cache_flags_out(flags, numbering, &mut raw) };
     Renumbered { number, flags: raw }
@@ -405,6 +523,112 @@ pub fn pick(cache: &[u8], name: &[u8], size: u32, scale: u32, directories: &[u32
         )
     };
     Pick { number, place }
+}
+
+/// Gives the rectangle for text in an image, by the offset of the image's data.
+#[inline]
+pub fn rectangle(cache: &[u8], data: usize) -> Rectangle {
+    let mut place = UNWRITTEN;
+    let [mut x0, mut y0, mut x1, mut y1] = [UNWRITTEN_SHORT; 4];
+    // SAFETY: the pointers are valid for the length given and for this call,
+    // and only the five numbers are written.
+    let number = unsafe {
+        c::icon_cache_rectangle(
+            address(cache),
+            cache.len(),
+            data,
+            &mut place,
+            &mut x0,
+            &mut y0,
+            &mut x1,
+            &mut y1,
+        )
+    };
+    Rectangle {
+        number,
+        place,
+        x0,
+        y0,
+        x1,
+        y1,
+    }
+}
+
+/// Gives one attach point of an image, by the offset of the image's data.
+#[inline]
+pub fn attach_point(cache: &[u8], data: usize, entry: usize) -> AttachPoint {
+    let mut place = UNWRITTEN;
+    let [mut x, mut y] = [UNWRITTEN_SHORT; 2];
+    // SAFETY: the pointers are valid for the length given and for this call,
+    // and only the three numbers are written.
+    let number = unsafe {
+        c::icon_cache_attach_point(
+            address(cache),
+            cache.len(),
+            data,
+            entry,
+            &mut place,
+            &mut x,
+            &mut y,
+        )
+    };
+    AttachPoint {
+        number,
+        place,
+        x,
+        y,
+    }
+}
+
+/// `icon_cache_display_language` or `icon_cache_display_name`.
+type TextCall = unsafe extern "C" fn(
+    cache: *const u8,
+    cache_len: usize,
+    data: usize,
+    entry: usize,
+    place: *mut usize,
+    start: *mut usize,
+    length: *mut usize,
+) -> u32;
+
+/// Gives the part of the cache that holds the language of one display name of an
+/// image, by the offset of the image's data.
+#[inline]
+pub fn display_language(cache: &[u8], data: usize, entry: usize) -> Text {
+    text_by(c::icon_cache_display_language, cache, data, entry)
+}
+
+/// Gives the part of the cache that holds the text of one display name of an image, by
+/// the offset of the image's data.
+#[inline]
+pub fn display_name(cache: &[u8], data: usize, entry: usize) -> Text {
+    text_by(c::icon_cache_display_name, cache, data, entry)
+}
+
+#[inline(always)]
+fn text_by(call: TextCall, cache: &[u8], data: usize, entry: usize) -> Text {
+    let mut place = UNWRITTEN;
+    let mut start = UNWRITTEN;
+    let mut length = UNWRITTEN;
+    // SAFETY: the pointers are valid for the length given and for this call,
+    // and only the three numbers are written.
+    let number = unsafe {
+        call(
+            address(cache),
+            cache.len(),
+            data,
+            entry,
+            &mut place,
+            &mut start,
+            &mut length,
+        )
+    };
+    Text {
+        number,
+        place,
+        start,
+        length,
+    }
 }
 
 /// Writes the cache of a catalogue, with this many buckets, to the front of the

@@ -19,7 +19,7 @@ use std::fmt;
 /// ```
 #[derive(Clone, Copy, Debug, PartialEq, Eq)]
 pub struct Refusal {
-    /// The answer number, 1 to 21, 26, 27 or 30 to 32.
+    /// The answer number, 1 to 24, 26, 27 or 30 to 33.
     pub number: u32,
     /// The offset of the fault in the cache, 0 where it has none; from
     /// [`write`](crate::write) and [`Catalogue`](crate::Catalogue) in the catalogue.
@@ -28,8 +28,9 @@ pub struct Refusal {
     pub place: usize,
     /// How many icon records the call opened. It is 0 from
     /// [`directory`](crate::directory), [`Flags`](crate::Flags),
-    /// [`write`](crate::write) and [`Catalogue`](crate::Catalogue), which open none, and
-    /// from [`Records`](crate::Records), [`pick`](crate::pick) and
+    /// [`notes`](crate::notes), [`write`](crate::write) and
+    /// [`Catalogue`](crate::Catalogue), which open none, and from
+    /// [`Records`](crate::Records), [`pick`](crate::pick) and
     /// [`catalogue_of`](crate::catalogue_of), which don't count them.
     pub opened: usize,
 }
@@ -86,6 +87,17 @@ impl Refusal {
     pub const REPEATED_NAME: u32 = 20;
     /// The cache has more than 65,535 icons, so no catalogue can list it.
     pub const TOO_MANY_ICONS: u32 = 21;
+    /// A part of an image's data is not wholly inside the cache, or is a list of more than
+    /// 1,024 entries. The place is the field that names it, and from
+    /// [`notes`](crate::notes) 0 if it is the image data that was asked for.
+    pub const BAD_IMAGE_DATA: u32 = 22;
+    /// The pixel data of an image is of an unknown type. The place is the field that
+    /// names the pixel data.
+    pub const BAD_PIXEL_TYPE: u32 = 23;
+    /// The language or the text of a display name is empty, longer than 255 bytes or
+    /// runs off the end. The place is the field that names it; other entries may still be
+    /// asked for.
+    pub const BAD_DISPLAY_NAME: u32 = 24;
     /// The position names no bucket, or its count is more than the cache's
     /// length less 11.
     pub const BAD_POSITION: u32 = 26;
@@ -100,6 +112,8 @@ impl Refusal {
     /// A type in the words lent to [`pick`](crate::pick) is above 2. The place is its
     /// index in these words, six times that of the directory.
     pub const BAD_TYPE: u32 = 32;
+    /// The image has no such note, or no entry of this number.
+    pub const NO_NOTE: u32 = 33;
 }
 
 impl fmt::Display for Refusal {
@@ -126,11 +140,15 @@ impl fmt::Display for Refusal {
             19 => "there is too little room, or the cache would be longer than 16,777,216 bytes",
             20 => "this name was used before",
             21 => "there are more than 65,535 icons",
+            22 => "the part of an image's data that this field names leaves the cache, or is a list that is too long",
+            23 => "the pixel data that this field names is of an unknown type",
+            24 => "this display name or its language is empty, too long or runs off the end",
             26 => "the position asked for names no bucket, or its count is too large",
             27 => "the flags are above 15, or their numbering is unknown",
             30 => "there is no icon of this name",
             31 => "there are not six words for each directory",
             32 => "the type of a directory is above 2",
+            33 => "the image has no such note",
             _ => "the answer number is unknown",
         })
     }
@@ -166,11 +184,15 @@ mod tests {
             (Refusal::DOES_NOT_FIT, "too little room, or"),
             (Refusal::REPEATED_NAME, "used before"),
             (Refusal::TOO_MANY_ICONS, "more than 65,535 icons"),
+            (Refusal::BAD_IMAGE_DATA, "an image's data"),
+            (Refusal::BAD_PIXEL_TYPE, "of an unknown type"),
+            (Refusal::BAD_DISPLAY_NAME, "this display name"),
             (Refusal::BAD_POSITION, "the position"),
             (Refusal::BAD_FLAGS, "the flags are above 15"),
             (Refusal::ABSENT, "no icon"),
             (Refusal::WRONG_WORD_COUNT, "not six words"),
             (Refusal::BAD_TYPE, "the type of a directory"),
+            (Refusal::NO_NOTE, "no such note"),
         ] {
             assert!(sentence(number).contains(words), "{number}");
         }
@@ -178,9 +200,9 @@ mod tests {
 
     #[test]
     fn each_number_has_its_own_sentence() {
-        let numbers = (1..=21).chain([26, 27]).chain(30..=32);
+        let numbers = (1..=24).chain([26, 27]).chain(30..=33);
         let known: HashSet<_> = numbers.map(sentence).collect();
-        assert_eq!(known.len(), 26);
+        assert_eq!(known.len(), 30);
         assert!(!known.contains(&sentence(0)));
     }
 }
