@@ -15,13 +15,12 @@ pub enum Request {
     Version,
     Check {
         files: Vec<OsString>,
-        /// With a chart of the chains.
-        verbose: bool,
+        manner: Manner,
     },
     Lookup {
         file: OsString,
         names: Vec<OsString>,
-        numbering: Numbering,
+        shown: Shown,
     },
     Dirs(OsString),
     List {
@@ -44,6 +43,22 @@ pub enum Request {
         file: OsString,
         target: Target,
     },
+}
+
+/// How caches are checked.
+pub struct Manner {
+    /// The image data too.
+    pub long: bool,
+    /// With a chart of the chains.
+    pub verbose: bool,
+    /// A longer file is not checked.
+    pub max_size: Option<usize>,
+}
+
+/// What is shown of an image.
+pub struct Shown {
+    pub numbering: Numbering,
+    pub notes: bool,
 }
 
 /// Where a result goes.
@@ -82,15 +97,15 @@ const COMMANDS: [Command; 7] = [
     Command {
         name: "check",
         help: help::CHECK,
-        options: &[],
-        switches: &[VERBOSE],
+        options: &[MAX_SIZE],
+        switches: &[LONG, VERBOSE],
         request: check,
     },
     Command {
         name: "lookup",
         help: help::LOOKUP,
         options: &[NUMBERING],
-        switches: &[],
+        switches: &[NOTES],
         request: lookup,
     },
     Command {
@@ -139,6 +154,9 @@ const OUTPUT: &str = "-o";
 const BUCKETS: &str = "--buckets";
 const TEXT: &str = "--text";
 const VERBOSE: &str = "--verbose";
+const LONG: &str = "--long";
+const MAX_SIZE: &str = "--max-size";
+const NOTES: &str = "--notes";
 
 /// What stands behind the name of a command.
 #[derive(Default)]
@@ -236,24 +254,31 @@ fn option(
 
 /// Standard input can be read only once.
 fn check(given: Given) -> Result<Request, &'static str> {
-    let verbose = given.switches.contains(VERBOSE);
+    let max_size = match given.text(MAX_SIZE) {
+        Some(value) => Some(size(&value).ok_or("--max-size takes a size, such as 4096 or 256K")?),
+        None => None,
+    };
+    let manner = Manner {
+        long: given.switches.contains(LONG),
+        verbose: given.switches.contains(VERBOSE),
+        max_size,
+    };
     let files = given.operands;
     let from_input = files.iter().filter(|file| is_standard_input(file));
     match (files.len(), from_input.count()) {
         (0, _) => Err("a file is missing"),
-        (_, 0 | 1) => Ok(Request::Check { files, verbose }),
+        (_, 0 | 1) => Ok(Request::Check { files, manner }),
         _ => Err("standard input is named twice"),
     }
 }
 
 fn lookup(given: Given) -> Result<Request, &'static str> {
-    let numbering = numbering(&given)?;
+    let shown = Shown {
+        numbering: numbering(&given)?,
+        notes: given.switches.contains(NOTES),
+    };
     let (file, names) = with_names(given.operands, "a file and a name are missing")?;
-    Ok(Request::Lookup {
-        file,
-        names,
-        numbering,
-    })
+    Ok(Request::Lookup { file, names, shown })
 }
 
 fn pick(mut given: Given) -> Result<Request, &'static str> {
@@ -379,6 +404,16 @@ fn position(value: &str) -> Option<Position> {
 /// An empty page would lead nowhere.
 fn page_length(value: &str) -> Option<usize> {
     number(value).filter(|length| *length > 0)
+}
+
+/// A size in bytes, or in units of 1,024 or 1,048,576.
+fn size(value: &str) -> Option<usize> {
+    let (digits, unit) = match value.as_bytes().last()? {
+        b'K' => (&value[..value.len() - 1], 1 << 10),
+        b'M' => (&value[..value.len() - 1], 1 << 20),
+        _ => (value, 1),
+    };
+    Some(number(digits)?.saturating_mul(unit))
 }
 
 fn bucket_count(value: &str) -> Option<usize> {

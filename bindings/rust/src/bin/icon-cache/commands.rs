@@ -1,31 +1,26 @@
 //! The commands on one cache, or several.
 
-use crate::chains;
+use crate::arguments::{Manner, Shown};
 use crate::input::Source;
 use crate::output::{Colour, Output, Status};
-use crate::show;
+use crate::{chains, notes, show};
 use icon_cache::raw::{self, Position};
-use icon_cache::{Checked, Found, Image, Numbering, Record, Refusal, LARGEST};
+use icon_cache::{Checked, Found, Image, Record, Refusal, LARGEST};
 use std::ffi::{OsStr, OsString};
 
-pub fn check(output: &mut Output, files: &[OsString], verbose: bool) -> Status {
+pub fn check(output: &mut Output, files: &[OsString], manner: &Manner) -> Status {
     let status = files.iter().map(|file| {
-        let status = check_file(output, file, verbose);
+        let status = check_file(output, file, manner);
         output.flush();
         status
     });
     status.max().unwrap_or(Status::Good)
 }
 
-pub fn lookup(
-    output: &mut Output,
-    file: &OsStr,
-    names: &[OsString],
-    numbering: Numbering,
-) -> Status {
+pub fn lookup(output: &mut Output, file: &OsStr, names: &[OsString], shown: &Shown) -> Status {
     with_cache(output, file, |output, _, cache| {
         for_names(output, names, |output, name| {
-            lookup_name(output, cache, name, numbering)
+            lookup_name(output, cache, name, shown)
         })
     })
 }
@@ -79,21 +74,42 @@ pub fn for_names(
     status.max().unwrap_or(Status::Good)
 }
 
-fn check_file(output: &mut Output, file: &OsStr, verbose: bool) -> Status {
-    with_cache(output, file, |output, shown, cache| {
-        let checked = match icon_cache::check(cache) {
-            Ok(checked) => checked,
-            Err(refusal) => return say_check_refused(output, shown, &refusal),
-        };
-        say_accepted(output, shown, &checked);
-        if verbose {
-            let chains = chains::by_length(cache, checked.longest);
-            for line in chains::chart(&chains) {
-                output.line(&line);
+fn check_file(output: &mut Output, file: &OsStr, manner: &Manner) -> Status {
+    let most = manner.max_size.unwrap_or(usize::MAX);
+    let source = Source::of(file);
+    with_bytes(
+        output,
+        &source,
+        most.min(LARGEST),
+        |output, shown, cache| {
+            if cache.len() > most {
+                let why = format!("the file is larger than {most} bytes, the --max-size");
+                output.complain(&format!("{shown}: {why}"));
+                return Status::Failed;
             }
+            check_cache(output, shown, cache, manner)
+        },
+    )
+}
+
+fn check_cache(output: &mut Output, shown: &str, cache: &[u8], manner: &Manner) -> Status {
+    let answer = if manner.long {
+        icon_cache::check_long(cache)
+    } else {
+        icon_cache::check(cache)
+    };
+    let checked = match answer {
+        Ok(checked) => checked,
+        Err(refusal) => return say_check_refused(output, shown, &refusal),
+    };
+    say_accepted(output, shown, &checked);
+    if manner.verbose {
+        let chains = chains::by_length(cache, checked.longest);
+        for line in chains::chart(&chains) {
+            output.line(&line);
         }
-        Status::Good
-    })
+    }
+    Status::Good
 }
 
 fn say_accepted(output: &mut Output, shown: &str, checked: &Checked) {
@@ -139,34 +155,32 @@ pub fn say_not_found(output: &mut Output, name: &str, refusal: &Refusal) -> Stat
     Status::Refused
 }
 
-fn lookup_name(output: &mut Output, cache: &[u8], name: &[u8], numbering: Numbering) -> Status {
-    let shown = show::bytes(name);
+fn lookup_name(output: &mut Output, cache: &[u8], name: &[u8], shown: &Shown) -> Status {
+    let name_shown = show::bytes(name);
     match icon_cache::lookup(cache, name) {
-        Ok(icon) => say_found(output, cache, &shown, &icon, numbering),
-        Err(refusal) => say_not_found(output, &shown, &refusal),
+        Ok(icon) => say_found(output, cache, &name_shown, &icon, shown),
+        Err(refusal) => say_not_found(output, &name_shown, &refusal),
     }
 }
 
-fn say_found(
-    output: &mut Output,
-    cache: &[u8],
-    shown: &str,
-    icon: &Found,
-    numbering: Numbering,
-) -> Status {
+fn say_found(output: &mut Output, cache: &[u8], name: &str, icon: &Found, shown: &Shown) -> Status {
     let found = output.paint(Colour::Green, "found");
     let images = show::count(icon.images.len(), "image", "images");
     let record = show::offset(icon.record);
-    output.line(&format!("{shown}: {found}: {images}, record at {record}"));
-    let status = icon
-        .images
-        .iter()
-        .map(|image| say_image(output, cache, image, numbering));
+    output.line(&format!("{name}: {found}: {images}, record at {record}"));
+    let status = icon.images.iter().map(|image| {
+        let status = say_image(output, cache, image, shown);
+        if shown.notes {
+            status.max(notes::say(output, cache, image))
+        } else {
+            status
+        }
+    });
     status.max().unwrap_or(Status::Good)
 }
 
-fn say_image(output: &mut Output, cache: &[u8], image: &Image, numbering: Numbering) -> Status {
-    let flags = show::flags(image.flags, numbering);
+fn say_image(output: &mut Output, cache: &[u8], image: &Image, shown: &Shown) -> Status {
+    let flags = show::flags(image.flags, shown.numbering);
     let data = show::offset(image.data_offset as usize);
     let rest = format!("{flags}, data offset {data}");
     match directory_of(cache, image) {

@@ -35,7 +35,7 @@ TERM is dumb.";
 pub const CHECK: &str = "\
 Says whether each cache is sound, in one line for each file.
 
-Usage: icon-cache check FILE... [--verbose]
+Usage: icon-cache check FILE... [--long] [--verbose] [--max-size N]
 
 An accepted cache is shown with the number of its icons and directories, and
 with how many records the longest of its buckets' chains has: no lookup opens
@@ -43,22 +43,34 @@ more. For a refused one the line says which rule it breaks first, at which
 offset (decimal and hex), and what that means.
 
 Options:
-  --verbose   below the line of an accepted cache, show how many chains have
-              each length, as bars, and how many icons are found with one record
-              opened. A length that no chain has is left out; where there are
-              more than 12, those from 4 on are put together as 4-7, 8-15 and
-              so on
+  --long         check the image data of each image too: that its parts lie in
+                 the file, that the type of its pixel data is known, and that
+                 its display names are neither empty nor too long
+  --verbose      below the line of an accepted cache, show how many chains have
+                 each length, as bars, and how many icons are found with one
+                 record opened. A length that no chain has is left out; where
+                 there are more than 12, those from 4 on are put together as
+                 4-7, 8-15 and so on
+  --max-size N   don't check a file of more than N bytes, and complain of it as
+                 of one that can't be read. 64K stands for 65536 and 1M for
+                 1048576
 
 A directory as FILE stands for the icon-theme.cache in it, and - for standard
 input. A file above 16,777,216 bytes is refused by rule 2 and not read further.
-A smaller one that was made to cost time can take some seconds.
+A smaller one that was made to cost time can take some seconds. With --long it
+can take a second at 4 KiB, half an hour at 64 KiB and days at 16 MiB: give the
+files of strangers a limit of time.
+
+Examples:
+  icon-cache check /usr/share/icons/*/icon-theme.cache
+  timeout 10 icon-cache check --long --max-size 256K pack/icon-theme.cache
 
 Exit status: 0 all accepted, 1 one refused, 2 one that can't be read.";
 
 pub const LOOKUP: &str = "\
 Shows the images of each icon: directory, flags and the offset of image data.
 
-Usage: icon-cache lookup FILE NAME... [--numbering freedesktop|gtk]
+Usage: icon-cache lookup FILE NAME... [--notes] [--numbering freedesktop|gtk]
 
 A NAME is that of the icon, without directory and suffix: folder-open. Names
 that begin with - are given after --. Names are compared byte for byte: two ways
@@ -68,6 +80,9 @@ Flags are shown as their sum, as it stands in the file, and by name. Generators
 number them in two ways, and a cache doesn't say in which.
 
 Options:
+  --notes                   below each image show what is noted on it: the
+                            rectangle for text, the points to attach emblems to,
+                            and the names to display, each with its language
   --numbering freedesktop   bitmap suffix 1, XPM suffix 2, SVG suffix 4, icon
                             file 8, as the freedesktop note on the format and
                             generators that follow it do (the default)
@@ -75,8 +90,12 @@ Options:
                             file 8, as GTK's gtk-update-icon-cache does
 
 A directory as FILE stands for the icon-theme.cache in it, and - for standard
-input. Only the records on the way to the icon are judged; `icon-cache check`
-judges the whole cache.
+input. Only the records on the way to the icon are judged, and the notes that
+are shown; `icon-cache check --long` judges the whole cache.
+
+Examples:
+  icon-cache lookup /usr/share/icons/hicolor folder --numbering gtk
+  icon-cache lookup pack/icon-theme.cache cow hen --notes
 
 Exit status: 0 all found, 1 one absent or refused, 2 a file that can't be read.";
 
@@ -164,7 +183,8 @@ with all numbers big-endian:
   a count of icons, 2 bytes, and for each the length of its name, 1 byte, the
   name, a count of images, 2 bytes, and for each image 8 bytes: the index of its
   directory, its flags and the offset of its data, as in a cache. The data is
-  not written: gtk-update-icon-cache --validate may refuse an offset but 0.
+  not written: `icon-cache check --long` and gtk-update-icon-cache --validate
+  may refuse an offset but 0.
 
 A catalogue that breaks a rule is refused, and so is one that has a name twice:
 the line says which field is wrong, at which offset (decimal and hex), and why.

@@ -8,6 +8,7 @@ mod chains;
 mod commands;
 mod help;
 mod input;
+mod notes;
 mod output;
 mod pick;
 mod replace;
@@ -31,12 +32,8 @@ fn answer(output: &mut Output, request: Request) -> Status {
     match request {
         Request::Help(text) => say(output, text),
         Request::Version => say(output, help::VERSION),
-        Request::Check { files, verbose } => commands::check(output, &files, verbose),
-        Request::Lookup {
-            file,
-            names,
-            numbering,
-        } => commands::lookup(output, &file, &names, numbering),
+        Request::Check { files, manner } => commands::check(output, &files, &manner),
+        Request::Lookup { file, names, shown } => commands::lookup(output, &file, &names, &shown),
         Request::Dirs(file) => commands::dirs(output, &file),
         Request::List { file, from, limit } => commands::list(output, &file, from, limit),
         Request::Pick {
