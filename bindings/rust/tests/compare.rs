@@ -12,7 +12,7 @@ mod side_by_side;
 
 use counts::{Counts, Met, OnPurpose, AHEAD};
 use generator::wanted::Wanted;
-use generator::{damage, name_in_bucket, name_of_hash, positions, rounds, series};
+use generator::{damage, name_in_bucket, name_of_hash, notes, positions, rounds, series};
 use generator::{Random, Sound, WRAPPING};
 use reader::{Position, Step};
 use side_by_side::{Difference, Pair};
@@ -41,6 +41,10 @@ const LARGE: usize = 100_000;
 
 /// One name in so many is asked of the pick too, after the first.
 const PICKS: usize = 24;
+
+/// Where only image data is damaged, the calls that don't read it are asked in one
+/// buffer of so many.
+const OTHERS: usize = 8;
 
 /// The most records of a walk over an accepted cache. Each step passes those before
 /// it on its chain again, so the cost grows with their square. Only the longest of
@@ -121,6 +125,8 @@ struct Comparison<'a> {
     names: Vec<Vec<u8>>,
     /// Positions to step from, if a case brings its own.
     positions: Vec<Position>,
+    /// Whether only image data is damaged, which few calls read.
+    of_notes: bool,
     counts: Counts,
     /// The first difference.
     report: Option<String>,
@@ -135,6 +141,7 @@ impl<'a> Comparison<'a> {
             random: Random::new(seed, lane),
             names: Vec::new(),
             positions: Vec::new(),
+            of_notes: false,
             counts: Counts::default(),
             report: None,
         }
@@ -185,6 +192,14 @@ impl<'a> Comparison<'a> {
                 self.compare(what, &bytes);
             }
         }
+        self.of_notes = true;
+        for _ in 0..4 {
+            let (what, damage) = notes::AT_RANDOM[self.random.below(notes::AT_RANDOM.len())];
+            if let Some(bytes) = damage(&mut self.random, &sound) {
+                self.compare(what, &bytes);
+            }
+        }
+        self.of_notes = false;
         // A cut cache is lent with its other bytes still behind it, where a
         // call that reads too far finds what it expects.
         let length = self.random.below(sound.bytes.len());
@@ -197,11 +212,18 @@ impl<'a> Comparison<'a> {
     fn run_on_purpose(&mut self, sound: &Sound) {
         self.counts.on_purpose.add(&OnPurpose::of(sound));
         let mut damages = Thinned::new(&mut self.random, sound);
-        damage::every_field(sound, |bytes| {
+        damage::every_field(sound, &damage::fields(sound), |bytes| {
             if damages.take_next() {
                 self.compare("every field", bytes);
             }
         });
+        self.of_notes = true;
+        damage::every_field(sound, &notes::fields(sound), |bytes| {
+            if damages.take_next() {
+                self.compare("every field of image data", bytes);
+            }
+        });
+        self.of_notes = false;
         damage::every_chain_end(sound, |bytes| {
             if damages.take_next() {
                 self.compare("every chain end", bytes);
@@ -238,12 +260,19 @@ impl<'a> Comparison<'a> {
         let cache = Asked {
             lent,
             check: pair.check()?,
+            check_long: pair.check_long()?,
             chains: reader::chain_lengths(lent),
             pair,
         };
         self.counts.check.note(cache.check.number);
         self.note_check(&cache);
+        self.counts.check_long.note(cache.check_long.number);
+        self.note_check_long(&cache);
         cache.demand_longest()?;
+        self.ask_notes(&cache)?;
+        if self.of_notes && !self.random.one_in(OTHERS) {
+            return Ok(());
+        }
         for (i, name) in self.queries(lent).iter().enumerate() {
             self.ask_lookup(&cache, name, i == 0)?;
             // The first name is mostly there. A case with its own positions has few names.
@@ -276,6 +305,56 @@ impl<'a> Comparison<'a> {
         } else if matches!(number, 8..=11 | 17) && opened > AHEAD {
             meetings.note(Met::FaultOnLongRound, cache.fault_on_long_round());
         }
+    }
+
+    fn note_check_long(&mut self, cache: &Asked) {
+        let (short, long) = (&cache.check, &cache.check_long);
+        let meetings = &mut self.counts.meetings;
+        let at_fault = matches!(long.number, 22..=24);
+        meetings.note(Met::DataAtFault, at_fault && short.number == 0);
+        let before = at_fault && matches!(short.number, 7..=11 | 17);
+        meetings.note(Met::DataBeforeFault, before);
+        let on_round = at_fault && short.number == 12;
+        meetings.note(Met::DataOnRound, on_round);
+        meetings.note(Met::DataOnLongRound, on_round && long.opened > AHEAD);
+    }
+
+    /// Asks for the notes on some images, and on others that are not there.
+    fn ask_notes(&mut self, cache: &Asked) -> Result<(), Difference> {
+        let there = reader::notes::data_offsets(cache.lent);
+        let with_data = cache.check_long.number == 12 && there.last() > Some(&0);
+        self.counts.meetings.note(Met::RoundWithData, with_data);
+        for data in notes::data_offsets(&mut self.random, cache.lent.len(), &there) {
+            let answer = cache.pair.rectangle(data)?;
+            self.counts.rectangle.note(answer.number);
+            let counts = reader::notes::counts(cache.lent, data);
+            for entry in notes::entries(&mut self.random, counts) {
+                self.ask_entry(cache, data, entry)?;
+            }
+            if counts.iter().sum::<usize>() > 0 {
+                cache.pair.all_entries(data)?;
+            }
+        }
+        Ok(())
+    }
+
+    fn ask_entry(&mut self, cache: &Asked, data: usize, entry: usize) -> Result<(), Difference> {
+        let point = cache.pair.attach_point(data, entry)?;
+        let language = cache.pair.display_language(data, entry)?;
+        let text = cache.pair.display_name(data, entry)?;
+        self.counts.point.note(point.number);
+        self.counts.language.note(language.number);
+        self.counts.text.note(text.number);
+        let meetings = &mut self.counts.meetings;
+        meetings.note(Met::LastPoint, point.number == 0 && entry == 1_023);
+        meetings.note(Met::LastName, text.number == 0 && entry == 1_023);
+        meetings.note(Met::LongestText, text.length == 255);
+        meetings.note(Met::TextAtZero, text.number == 0 && text.start == 0);
+        let behind_fault = language.number == 24 && text.number == 0;
+        meetings.note(Met::TextBehindFault, behind_fault);
+        let behind_header = matches!(cache.check.number, 3..=5) && point.number == 0;
+        meetings.note(Met::NoteBehindHeader, behind_header);
+        Ok(())
     }
 
     /// Steps twice from each of some positions, mostly after a walk from the start on.
@@ -475,6 +554,7 @@ struct Asked<'a> {
     lent: &'a [u8],
     pair: Pair<'a>,
     check: reader::Check,
+    check_long: reader::Check,
     /// How many records each chain has.
     chains: Vec<usize>,
 }
@@ -489,7 +569,11 @@ impl Asked<'_> {
             0 => self.chains.iter().max().copied(),
             _ => Some(0),
         };
-        if wanted == Some(longest) {
+        let of_long = match self.check_long.number {
+            0 => wanted,
+            _ => Some(0),
+        };
+        if wanted == Some(longest) && of_long == Some(self.check_long.longest) {
             return Ok(());
         }
         Err(Difference {
@@ -629,6 +713,14 @@ fn demand_sound(sound: &Sound) {
         "{}",
         hex(&sound.bytes)
     );
+    if sound.long {
+        assert_eq!(
+            reader::check_long(&sound.bytes),
+            expected,
+            "{}",
+            hex(&sound.bytes)
+        );
+    }
     assert_eq!(
         walked(&sound.bytes),
         sound.records(),

@@ -99,10 +99,29 @@ pub enum Met {
     /// for an absent name, and for one that its last record bears.
     LongestMissed,
     LongestFound,
+    /// A fault in image data, by the long check alone: in a cache that the short one
+    /// accepts, before a fault that it finds, on a chain that never ends, and on a long
+    /// one.
+    DataAtFault,
+    DataBeforeFault,
+    DataOnRound,
+    DataOnLongRound,
+    /// A chain that never ends, with image data.
+    RoundWithData,
+    /// The last entry of the longest list, of attach points and of display names.
+    LastPoint,
+    LastName,
+    /// A language or a text of the greatest length, one at offset 0, and one behind a
+    /// language at fault.
+    LongestText,
+    TextAtZero,
+    TextBehindFault,
+    /// A note in a cache whose header is refused.
+    NoteBehindHeader,
 }
 
 impl Met {
-    const ALL: [Met; 30] = [
+    const ALL: [Met; 41] = [
         Met::WholeWalk,
         Met::EmptyBuckets,
         Met::RecordAgain,
@@ -133,11 +152,21 @@ impl Met {
         Met::CountBeforeType,
         Met::LongestMissed,
         Met::LongestFound,
+        Met::DataAtFault,
+        Met::DataBeforeFault,
+        Met::DataOnRound,
+        Met::DataOnLongRound,
+        Met::RoundWithData,
+        Met::LastPoint,
+        Met::LastName,
+        Met::LongestText,
+        Met::TextAtZero,
+        Met::TextBehindFault,
+        Met::NoteBehindHeader,
     ];
 }
 
 /// How often each was met.
-#[derive(Default)]
 pub struct Meetings([u64; Met::ALL.len()]);
 
 impl Meetings {
@@ -164,8 +193,8 @@ impl Meetings {
     }
 }
 
-/// How often a call gave each answer number; the largest is 32.
-pub struct Answers([u64; 33]);
+/// How often a call gave each answer number; the largest is 33.
+pub struct Answers([u64; 34]);
 
 impl Answers {
     pub fn note(&mut self, number: u32) {
@@ -179,10 +208,16 @@ impl Answers {
     }
 }
 
-/// An array of this length has no default.
+/// Arrays of these lengths have no default.
+impl Default for Meetings {
+    fn default() -> Self {
+        Meetings([0; Met::ALL.len()])
+    }
+}
+
 impl Default for Answers {
     fn default() -> Self {
-        Answers([0; 33])
+        Answers([0; 34])
     }
 }
 
@@ -201,6 +236,11 @@ pub struct Counts {
     pub path: Answers,
     pub list: Answers,
     pub pick: Answers,
+    pub check_long: Answers,
+    pub rectangle: Answers,
+    pub point: Answers,
+    pub language: Answers,
+    pub text: Answers,
     pub meetings: Meetings,
 }
 
@@ -228,21 +268,35 @@ impl Counts {
         self.path.add(&other.path);
         self.list.add(&other.list);
         self.pick.add(&other.pick);
+        self.check_long.add(&other.check_long);
+        self.rectangle.add(&other.rectangle);
+        self.point.add(&other.point);
+        self.language.add(&other.language);
+        self.text.add(&other.text);
     }
 
     /// The counts of each call, and the numbers it can answer.
-    fn calls(&self) -> [(&str, &Answers, Vec<usize>); 6] {
+    fn calls(&self) -> [(&str, &Answers, Vec<usize>); 11] {
         let lookup = [0, 1, 2, 3, 4, 5, 7, 8, 9, 10, 11, 12, 13, 14, 17, 30];
         let directory = [0, 1, 2, 3, 4, 5, 6, 15, 16, 17];
         let list = [0, 1, 2, 3, 4, 5, 7, 8, 9, 10, 11, 17, 26, 28];
         let pick = [0, 1, 2, 3, 4, 5, 7, 8, 9, 10, 11, 12, 13, 17, 30, 31, 32];
+        let check = (0..=12).chain([16, 17]);
+        let check_long = check.clone().chain(22..=24);
+        let note = [0, 1, 2, 22, 33];
+        let text = [0, 1, 2, 22, 24, 33];
         [
-            ("check", &self.check, (0..=12).chain([16, 17]).collect()),
+            ("check", &self.check, check.collect()),
+            ("long check", &self.check_long, check_long.collect()),
             ("lookup", &self.lookup, lookup.into()),
             ("directory", &self.directory, directory.into()),
             ("path", &self.path, directory.into()),
             ("list", &self.list, list.into()),
             ("pick", &self.pick, pick.into()),
+            ("rectangle", &self.rectangle, note.into()),
+            ("point", &self.point, note.into()),
+            ("language", &self.language, text.into()),
+            ("text", &self.text, text.into()),
         ]
     }
 
@@ -259,7 +313,7 @@ impl Counts {
         let calls = self.calls();
         let heads = calls.each_ref().map(|(call, ..)| format!("{call:>12}"));
         println!("answer{}", heads.concat());
-        for number in (0..=17).chain([26, 28, 30, 31, 32]) {
+        for number in (0..=17).chain([22, 23, 24, 26, 28]).chain(30..=33) {
             let counts = calls.each_ref().map(|(_, answers, _)| answers.0[number]);
             let columns = counts.map(|count| format!("{count:>12}"));
             println!("{number:>6}{}", columns.concat());

@@ -1,9 +1,11 @@
 //! Sound caches at random.
 //!
 //! The parts are placed on a canvas one after another, each when all that it
-//! points to has its place: strings, image lists, chains from their last record
-//! back, hash, directory list, header. A part may lie on bytes that are taken
+//! points to has its place: strings, image data, image lists, chains from their last
+//! record back, hash, directory list, header. A part may lie on bytes that are taken
 //! if they are the bytes it needs; so parts overlap and the cache stays sound.
+
+mod notes;
 
 use super::{name_in_bucket, numbers, Random, END, VERSION};
 use crate::reader;
@@ -19,6 +21,8 @@ pub struct Sound {
     pub chains: Vec<Vec<usize>>,
     pub image_lists: Vec<usize>,
     pub names: Vec<Vec<u8>>,
+    /// Whether its image data is sound too. Else its data offsets are any numbers.
+    pub long: bool,
 }
 
 impl Sound {
@@ -36,6 +40,7 @@ impl Sound {
             chains: vec![vec![28, 40], vec![], vec![52]],
             image_lists: vec![64, 76],
             names: [b"hen", b"oat", b"cow"].map(|name| name.to_vec()).into(),
+            long: true,
         }
     }
 
@@ -108,6 +113,9 @@ struct Maker<'a> {
     /// Strings placed so far, with their offsets.
     strings: Vec<(usize, Vec<u8>)>,
     image_lists: Vec<usize>,
+    notes: notes::Placed,
+    /// Whether the image data is to be sound.
+    long: bool,
 }
 
 impl<'a> Maker<'a> {
@@ -117,11 +125,13 @@ impl<'a> Maker<'a> {
         let room = 40 * sizes.icons + 4 * sizes.buckets + 16 * sizes.directories;
         let room = [0, room / 2, room, room + room / 2][random.below(4)];
         Maker {
+            long: !random.one_in(5),
             random,
             sizes,
             canvas: Canvas::new(12 + room),
             strings: Vec::new(),
             image_lists: Vec::new(),
+            notes: notes::Placed::default(),
         }
     }
 
@@ -158,6 +168,7 @@ impl<'a> Maker<'a> {
             chains,
             image_lists: self.image_lists,
             names: icons.into_iter().map(|(_, name, _)| name).collect(),
+            long: self.long,
         }
     }
 
@@ -259,7 +270,7 @@ impl<'a> Maker<'a> {
         // The data offset of an image may be the count of a second list, made
         // of images after it.
         let mut second = None;
-        if count > 1 && self.random.one_in(4) {
+        if count > 1 && !self.long && self.random.one_in(4) {
             let image = self.random.below(count - 1);
             fields[2 + 2 * image] = self.random.below(count - image) as u32;
             second = Some(8 + 8 * image);
@@ -277,6 +288,7 @@ impl<'a> Maker<'a> {
         };
         let flags = self.random.below(16) as u32;
         let data = match self.random.below(4) {
+            0 | 1 if self.long => self.image_data(),
             0 => self.random.next() as u32,
             1 => END,
             _ => 0,

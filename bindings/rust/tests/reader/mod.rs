@@ -5,9 +5,11 @@
 //! ends. No steps are counted; what stands at a count on such a chain is reckoned.
 //! The records are judged afterwards, in order.
 
+// Not every program asks.
+#[allow(dead_code)]
+pub mod notes;
 mod pick;
 
-// Not every program asks.
 #[allow(unused_imports)]
 pub use pick::{image, pick, Pick};
 
@@ -289,14 +291,26 @@ fn image_allowed(cache: &[u8], tables: &Tables, image: usize) -> bool {
 // The calls.
 
 pub fn check(cache: &[u8]) -> Check {
-    let refused = |fault: Fault, opened| Check {
+    check_with(cache, |_| Ok(()))
+}
+
+pub fn check_long(cache: &[u8]) -> Check {
+    check_with(cache, |icon| notes::judge(cache, icon))
+}
+
+fn refused(fault: Fault, opened: usize) -> Check {
+    Check {
         number: fault.number,
         place: fault.place,
         directories: 0,
         icons: 0,
         opened,
         longest: 0,
-    };
+    }
+}
+
+/// Each record that keeps the other rules is judged by this one too.
+fn check_with(cache: &[u8], judge: impl Fn(&Icon) -> Result<(), Fault>) -> Check {
     let tables = match tables(cache) {
         Ok(tables) => tables,
         Err(fault) => return refused(fault, 0),
@@ -314,7 +328,8 @@ pub fn check(cache: &[u8]) -> Check {
         longest = longest.max(chain.records.len());
         for &record in &chain.records {
             icons += 1;
-            if let Err(fault) = icon(cache, &tables, bucket, record) {
+            let icon = icon(cache, &tables, bucket, record);
+            if let Err(fault) = icon.and_then(|icon| judge(&icon)) {
                 return refused(fault, icons);
             }
         }
@@ -497,20 +512,23 @@ pub fn sizes(cache: &[u8]) -> Option<(usize, usize)> {
     Some((tables.directories, tables.buckets))
 }
 
-/// The names of all records that keep the rules, in the order of the check.
-pub fn names(cache: &[u8]) -> Vec<&[u8]> {
+/// All records that keep the rules, in the order of the check.
+fn icons(cache: &[u8]) -> Vec<Icon<'_>> {
     let Ok(tables) = tables(cache) else {
         return Vec::new();
     };
-    let mut names = Vec::new();
+    let mut icons = Vec::new();
     for bucket in 0..tables.buckets {
         for record in chain(cache, tables.bucket_field(bucket)).records {
-            if let Ok(icon) = icon(cache, &tables, bucket, record) {
-                names.push(icon.name);
-            }
+            icons.extend(icon(cache, &tables, bucket, record));
         }
     }
-    names
+    icons
+}
+
+/// Their names.
+pub fn names(cache: &[u8]) -> Vec<&[u8]> {
+    icons(cache).into_iter().map(|icon| icon.name).collect()
 }
 
 /// How many records the chain of each bucket has; those of an endless one count

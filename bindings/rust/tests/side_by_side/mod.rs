@@ -2,6 +2,10 @@
 //! answers. The safe functions are asked along with `raw`: they must tell the
 //! same in their own words.
 
+// Not every test asks.
+#[allow(dead_code)]
+mod notes;
+
 use crate::reader;
 use icon_cache::{raw, Checked, Found, Image, Picked, Record, Refusal};
 use std::fmt::{self, Debug};
@@ -40,19 +44,20 @@ impl<'a> Pair<'a> {
     }
 
     pub fn check(&self) -> Result<reader::Check, Difference> {
-        let answer = raw::check(self.lent);
-        let library = reader::Check {
-            number: answer.number,
-            place: answer.place,
-            directories: answer.directories,
-            icons: answer.icons,
-            opened: answer.opened,
-            longest: answer.longest,
-        };
+        let library = check_of(raw::check(self.lent));
         let reader = reader::check(&self.copy);
         self.agree(|| "check".into(), library, reader)?;
         let safe = icon_cache::check(self.lent);
         self.agree(|| "safe check".into(), safe, checked(&reader))?;
+        Ok(reader)
+    }
+
+    pub fn check_long(&self) -> Result<reader::Check, Difference> {
+        let library = check_of(raw::check_long(self.lent));
+        let reader = reader::check_long(&self.copy);
+        self.agree(|| "long check".into(), library, reader)?;
+        let safe = icon_cache::check_long(self.lent);
+        self.agree(|| "safe long check".into(), safe, checked(&reader))?;
         Ok(reader)
     }
 
@@ -189,8 +194,13 @@ impl<'a> Pair<'a> {
     /// Where the path given lies in the lent buffer: a copy of it shows.
     fn safe_directory(&self, index: usize) -> Result<(usize, usize), Refusal> {
         let path = icon_cache::directory(self.lent, index)?;
-        let start = (path.as_ptr() as usize).wrapping_sub(self.lent.as_ptr() as usize);
-        Ok((start, path.len()))
+        Ok(self.place_of(path))
+    }
+
+    /// Where a string given lies in the lent buffer, and its length.
+    fn place_of(&self, string: &[u8]) -> (usize, usize) {
+        let start = (string.as_ptr() as usize).wrapping_sub(self.lent.as_ptr() as usize);
+        (start, string.len())
     }
 
     /// The answers are equal, and the call left the buffer as it was.
@@ -215,6 +225,17 @@ impl<'a> Pair<'a> {
             });
         }
         Ok(())
+    }
+}
+
+fn check_of(answer: raw::Check) -> reader::Check {
+    reader::Check {
+        number: answer.number,
+        place: answer.place,
+        directories: answer.directories,
+        icons: answer.icons,
+        opened: answer.opened,
+        longest: answer.longest,
     }
 }
 
