@@ -44,6 +44,7 @@ fn measure_side_by_side(caches: &[Cache]) -> Vec<Row> {
         rows.push(lookups::hits(cache));
         rows.push(lookups::misses(cache));
         rows.push(checks::check(cache));
+        rows.push(checks::check_long(cache));
         rows.push(lists::list(cache));
     }
     for run in 0..RUNS {

@@ -1,4 +1,4 @@
-//! Counts the machine instructions of the check, the lookup, the listing and the
+//! Counts the machine instructions of both checks, the lookup, the listing and the
 //! pick, by valgrind's tool callgrind:
 //!
 //! `cargo run --offline --release --example count`
