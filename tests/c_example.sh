@@ -18,6 +18,10 @@ truncate -s 16777216 "$1/largest.cache"
 cp "$1/largest.cache" "$1/too_large.cache"
 truncate -s 16777217 "$1/too_large.cache"
 
+# A cache with notes, and the same whose first display name of cow begins at its zero byte.
+notes=bindings/rust/tests/data/notes.cache
+{ head -c 252 "$notes"; printf '\000\000\001\023'; tail -c +257 "$notes"; } > "$1/bad_note.cache"
+
 # Runs a program on one cache and one name; a status other than 0 is printed too.
 answer() {
     "$@" 2>&1 || echo "status $?"
@@ -30,6 +34,8 @@ answers() {
     answer "$1" tests/caches/damaged.cache oat
     answer "$1" "$2/bad_path.cache" cow
     answer "$1" "$2/cut_off.cache" cow
+    answer "$1" "$notes" cow
+    answer "$1" "$2/bad_note.cache" cow
     answer "$1" "$2/largest.cache" oat
     answer "$1" "$2/too_large.cache" oat
     answer "$1" tests/caches/no_such.cache oat
