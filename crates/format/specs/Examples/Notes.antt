@@ -1,8 +1,10 @@
--- Rules 22 to 24 on some small buffers, computed.
+-- Examples of rules 22 to 24 behind one image, under one proved statement.
 use Prim.Native.Nat.{ℕ}
 use mathlib.Core.Path.{_≡_, refl}
 use mathlib.Core.List.{List, [], _∷_, _++_}
+use mathlib.Core.Bool.{Bool, true, _&&_}
 use lib.ListN.{replicate}
+use lib.Dec.{T, eqb}
 use Rattle.format.specs.Number.{be}
 use Rattle.format.specs.Bytes.{put}
 use Rattle.format.specs.Fault.{fault, noFault, _orElse_, firstFault}
@@ -29,55 +31,69 @@ whole =
 abbrev pub with : ℕ → ℕ → List ℕ → List ℕ
 with at b s = patched at (b ∷ []) s
 
--- nothing is broken; nor where no image data, no pixel data or no meta data is there
-kept : (imageDataFault whole 8 ≡ noFault) × (imageDataFault (with 11 0 whole) 8 ≡ noFault) × (imageDataFault (with 15 0 whole) 8 ≡ noFault) × (imageDataFault (with 19 0 whole) 8 ≡ noFault)
-unfolding imageDataFault metaDataFault namesFault pointsFault rectangleFault pixelDataFault displayNameFault noteFault firstFault _orElse_ put be extent string isWhole
-kept = (refl, refl, refl, refl)
+-- what is broken first behind the field at 8 of a buffer: nothing, or a rule with its place
+data Behind : Type 0 where
+  keeps : List ℕ → Behind
+  breaks : List ℕ → ℕ → ℕ → Behind
 
--- 22 for image data that ends a byte past the end, at the image's field; at 76 its parts count
-image-data : (imageDataFault (with 11 77 whole) 8 ≡ fault 22 8) × (imageDataFault (with 11 76 whole) 8 ≡ fault 22 76)
-unfolding imageDataFault metaDataFault namesFault pointsFault rectangleFault pixelDataFault displayNameFault noteFault firstFault _orElse_ put be extent string isWhole
-image-data = (refl, refl)
+holds : Behind → Bool
+holds (keeps s) = eqb (imageDataFault s 8 .number) 0
+holds (breaks s x p) = eqb (imageDataFault s 8 .number) x && eqb (imageDataFault s 8 .place) p
 
--- 22 for pixel data whose fields or pixels are not inside, 23 for its type; 22 comes first
-pixel-data : (imageDataFault (with 15 77 whole) 8 ≡ fault 22 12) × (imageDataFault (with 27 57 whole) 8 ≡ fault 22 12) × (imageDataFault (with 27 56 whole) 8 ≡ noFault) × (imageDataFault (with 23 1 whole) 8 ≡ fault 23 12) × (imageDataFault (with 23 1 (with 27 57 whole)) 8 ≡ fault 22 12)
-unfolding imageDataFault metaDataFault namesFault pointsFault rectangleFault pixelDataFault displayNameFault noteFault firstFault _orElse_ put be extent string isWhole
-pixel-data = (refl, refl, refl, refl, refl)
+all : List Behind → Bool
+all [] = true
+all (e ∷ es) = holds e && all es
 
--- 22 for meta data that is not inside; 23 comes before it; at 72 its parts count
-meta-data : (imageDataFault (with 19 73 whole) 8 ≡ fault 22 16) × (imageDataFault (with 23 1 (with 19 73 whole)) 8 ≡ fault 23 12) × (imageDataFault (with 19 72 whole) 8 ≡ fault 22 72)
-unfolding imageDataFault metaDataFault namesFault pointsFault rectangleFault pixelDataFault displayNameFault noteFault firstFault _orElse_ put be extent string isWhole
-meta-data = (refl, refl, refl)
+behind : List Behind
+behind =
+    -- all parts; no image data, no pixel data, no meta data
+    keeps whole ∷
+    keeps (with 11 0 whole) ∷
+    keeps (with 15 0 whole) ∷
+    keeps (with 19 0 whole) ∷
+    -- image data that ends a byte past the end; at 76 its parts count
+    breaks (with 11 77 whole) 22 8 ∷
+    breaks (with 11 76 whole) 22 76 ∷
+    -- pixel data whose fields or pixels are not inside, and pixels up to the end
+    breaks (with 15 77 whole) 22 12 ∷
+    breaks (with 27 57 whole) 22 12 ∷
+    keeps (with 27 56 whole) ∷
+    -- pixel data of another type, and that whose pixels are not inside either
+    breaks (with 23 1 whole) 23 12 ∷
+    breaks (with 23 1 (with 27 57 whole)) 22 12 ∷
+    -- meta data that is not inside; 23 comes before it; at 72 its parts count
+    breaks (with 19 73 whole) 22 16 ∷
+    breaks (with 23 1 (with 19 73 whole)) 23 12 ∷
+    breaks (with 19 72 whole) 22 72 ∷
+    -- a rectangle that is not inside, none, and one that just is
+    breaks (with 35 77 whole) 22 32 ∷
+    keeps (with 35 0 whole) ∷
+    keeps (with 35 76 whole) ∷
+    -- attach points whose count or entries are not inside; 7 of them just are; none
+    breaks (with 39 81 whole) 22 36 ∷
+    breaks (with 55 8 whole) 22 36 ∷
+    keeps (with 55 7 whole) ∷
+    keeps (with 39 0 whole) ∷
+    -- 1,024 attach points, and 1,025 of them, all inside
+    keeps (with 54 4 (with 55 0 whole) ++ replicate 4068 0) ∷
+    breaks (with 54 4 (with 55 1 whole) ++ replicate 4072 0) 22 36 ∷
+    -- display names whose count or entries are not inside, and none
+    breaks (with 43 81 whole) 22 40 ∷
+    breaks (with 67 3 whole) 22 40 ∷
+    keeps (with 43 0 whole) ∷
+    -- an empty language, a text that is cut off, one at 0, and the language of a second entry
+    breaks (with 71 78 whole) 24 68 ∷
+    breaks (with 83 33 whole) 24 72 ∷
+    breaks (with 75 0 whole) 24 72 ∷
+    breaks (with 67 2 whole) 24 76 ∷
+    -- a text of 255 bytes, and one of 256
+    keeps (with 83 97 whole ++ replicate 250 97 ++ 0 ∷ []) ∷
+    breaks (with 83 97 whole ++ replicate 251 97 ++ 0 ∷ []) 24 72 ∷
+    []
 
--- 22 for the rectangle; none is there with offset 0, and at 76 it just is inside
-rectangles : (imageDataFault (with 35 77 whole) 8 ≡ fault 22 32) × (imageDataFault (with 35 0 whole) 8 ≡ noFault) × (imageDataFault (with 35 76 whole) 8 ≡ noFault)
-unfolding imageDataFault metaDataFault namesFault pointsFault rectangleFault pixelDataFault displayNameFault noteFault firstFault _orElse_ put be extent string isWhole
-rectangles = (refl, refl, refl)
-
--- 22 for attach points whose count or entries are not inside; 7 of them just are
-points : (imageDataFault (with 39 81 whole) 8 ≡ fault 22 36) × (imageDataFault (with 55 8 whole) 8 ≡ fault 22 36) × (imageDataFault (with 55 7 whole) 8 ≡ noFault) × (imageDataFault (with 39 0 whole) 8 ≡ noFault)
-unfolding imageDataFault metaDataFault namesFault pointsFault rectangleFault pixelDataFault displayNameFault noteFault firstFault _orElse_ put be extent string isWhole
-points = (refl, refl, refl, refl)
-
--- 1,024 attach points, and 22 for 1,025 of them, all inside
-many-points : (imageDataFault (with 54 4 (with 55 0 whole) ++ replicate 4068 0) 8 ≡ noFault) × (imageDataFault (with 54 4 (with 55 1 whole) ++ replicate 4072 0) 8 ≡ fault 22 36)
-unfolding imageDataFault metaDataFault namesFault pointsFault rectangleFault pixelDataFault displayNameFault noteFault firstFault _orElse_ put be extent string isWhole
-many-points = (refl, refl)
-
--- 22 for display names whose count or entries are not inside
-names : (imageDataFault (with 43 81 whole) 8 ≡ fault 22 40) × (imageDataFault (with 67 3 whole) 8 ≡ fault 22 40) × (imageDataFault (with 43 0 whole) 8 ≡ noFault)
-unfolding imageDataFault metaDataFault namesFault pointsFault rectangleFault pixelDataFault displayNameFault noteFault firstFault _orElse_ put be extent string isWhole
-names = (refl, refl, refl)
-
--- 24 for an empty language, a text that is cut off, one at offset 0, and in the second of 2 entries
-strings : (imageDataFault (with 71 78 whole) 8 ≡ fault 24 68) × (imageDataFault (with 83 33 whole) 8 ≡ fault 24 72) × (imageDataFault (with 75 0 whole) 8 ≡ fault 24 72) × (imageDataFault (with 67 2 whole) 8 ≡ fault 24 76)
-unfolding imageDataFault metaDataFault namesFault pointsFault rectangleFault pixelDataFault displayNameFault noteFault firstFault _orElse_ put be extent string isWhole
-strings = (refl, refl, refl, refl)
-
--- a text of 255 bytes, and 24 for one of 256
-long-strings : (imageDataFault (with 83 97 whole ++ replicate 250 97 ++ 0 ∷ []) 8 ≡ noFault) × (imageDataFault (with 83 97 whole ++ replicate 251 97 ++ 0 ∷ []) 8 ≡ fault 24 72)
-unfolding imageDataFault metaDataFault namesFault pointsFault rectangleFault pixelDataFault displayNameFault noteFault firstFault _orElse_ put be extent string isWhole
-long-strings = (refl, refl)
+behind-holds : T (all behind)
+unfolding all holds behind imageDataFault metaDataFault namesFault pointsFault rectangleFault pixelDataFault displayNameFault noteFault firstFault _orElse_ put be extent string isWhole
+behind-holds = tt
 
 -- the second of two images, whose field at 16 leads to 32: 22 for the pixel data at 44
 two-images : (notesFault 1 whole 4 ≡ noFault) × (notesFault 2 whole 4 ≡ fault 22 32)
