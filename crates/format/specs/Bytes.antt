@@ -10,7 +10,7 @@ bytes zero n = []
 bytes (suc w) n = bytes w (n / 256) ++ (n % 256 ∷ [])
 
 -- the first n of the parts that f gives, without gaps
-unfoldable pub joined : (ℕ → List ℕ) → ℕ → List ℕ
+unfoldable pub joined : {A : Type 0} → (ℕ → List A) → ℕ → List A
 joined f zero = []
 joined f (suc n) = joined f n ++ f n
 

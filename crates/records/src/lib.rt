@@ -23,13 +23,13 @@ use tables::list_inside;
 
 // The first words of images with a valid index: `span` of them from `lowest` on. The index is the
 // high half of the word, so those words follow one another and one test settles it.
-struct ValidWords {
-    lowest: u32,
-    span: u32,
+pub struct ValidWords {
+    pub lowest: u32,
+    pub span: u32,
 }
 
 // Those where there are `n` directories.
-fn valid_words(n: u32) -> ValidWords
+pub fn valid_words(n: u32) -> ValidWords
     requires { ⌜ n < 65536 ⌝ }
     ensures { λ r. ⌜ r ≡ validWords n ⌝ }
 {
@@ -58,7 +58,7 @@ fn first_word(cache: &[u8], at: usize) -> u32
 }
 
 // Rule 11 on the image at `at`, where `valid` are the valid first words.
-fn valid_image(cache: &[u8], valid: ValidWords, at: usize) -> bool
+pub fn valid_image(cache: &[u8], valid: ValidWords, at: usize) -> bool
     requires { ⌜ (directories (now cache) < 65536) × (valid ≡ validWords (directories (now cache))) ⌝ }
     requires { ⌜ at + 8 ≤ length (now cache) ⌝ }
     ensures { λ r. ⌜ r ≡ validImage (now (cache .entry)) at ⌝ }
@@ -96,7 +96,7 @@ fn images(cache: &[u8], n: u32, m: u32, at: usize) -> Fault
 }
 
 // Whether the image list at `at` lies inside and is not too long.
-fn valid_image_list(cache: &[u8], at: usize) -> bool
+pub fn valid_image_list(cache: &[u8], at: usize) -> bool
     requires { ⌜ at < 2 ^ 32 ⌝ }
     ensures { λ r. ⌜ r ≡ validImageList (now (cache .entry)) at ⌝ }
 {
@@ -118,7 +118,7 @@ fn name_part(cache: &[u8], record: usize) -> &[u8]
 
 // Rules 8, 17 and 9 on the name of `record`, on the chain of `bucket`. A name that is `known` to
 // keep them isn't read.
-fn judge_name(cache: &[u8], t: Tables, bucket: u32, record: usize, known: bool) -> Fault
+pub fn judge_name(cache: &[u8], t: Tables, bucket: u32, record: usize, known: bool) -> Fault
     requires { ⌜ TablesOf (now cache) t ⌝ }
     requires { ⌜ «record» + 12 ≤ length (now cache) ⌝ }
     requires { ⌜ (known ≡ true → nameFault (now cache) bucket «record» ≡ noFault) ⌝ }

@@ -23,10 +23,11 @@ pub record Runs (s : List ℕ) (f most : ℕ) (a : Round) : Type 0 where
   pub inside : InsideBelow s f (a .start + a .steps)
   pub back : ahead s f (a .start + a .steps) ≡ ahead s f (a .start)
 
--- step m, not behind the start, is one from which the round runs
+-- step m, not behind the start, is the first from which the round runs
 pub record LeadsIn (s : List ℕ) (f : ℕ) (a : Round) (m : ℕ) : Type 0 where
   pub before : m ≤ a .start
   pub back : ahead s f (m + a .steps) ≡ ahead s f m
+  pub first : (i : ℕ) → i < m → ahead s f (i + a .steps) ≡ ahead s f i → ⊥
 
 -- within n steps a field is met again
 pub record ComesBack (s : List ℕ) (f n : ℕ) : Type 0 where

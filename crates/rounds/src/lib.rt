@@ -9,9 +9,9 @@ use bigendian::u32_at;
 
 // A round: `start` steps lead to a field of it, and `steps` more lead back to that field. 0 steps
 // where none is found.
-struct Round {
-    start: usize,
-    steps: usize,
+pub struct Round {
+    pub start: usize,
+    pub steps: usize,
 }
 
 // The field that `steps` steps from `field` on lead to.
@@ -59,7 +59,7 @@ fn find(cache: &[u8], field: usize, most: usize) -> Round
 }
 
 // The first of the steps from `field` on from which the round runs.
-fn lead_in(cache: &[u8], field: usize, round: Round) -> usize
+pub fn lead_in(cache: &[u8], field: usize, round: Round) -> usize
     requires { ⌜ Runs (now cache) field (round .start + round .steps) round ⌝ }
     ensures { λ r. ⌜ LeadsIn (now (cache .entry)) field round r ⌝ }
 {

@@ -22,7 +22,7 @@ unfolding visits
 visits-length s k zero xs = omega arith
 visits-length s k (suc n) xs = omega (arith, visits-length s k n xs)
 
-visits-cases : (s : List ℕ) (k n : ℕ) (xs : List ℕ) {y : ℕ} → List·Memᴰ y (visits s k n xs)
+pub visits-cases : (s : List ℕ) (k n : ℕ) (xs : List ℕ) {y : ℕ} → List·Memᴰ y (visits s k n xs)
     → ((m : ℕ) × (m < n) × (y ≡ link s k m)) ⊎ List·Memᴰ y xs
 unfolding visits
 visits-cases s k zero xs h = inr h

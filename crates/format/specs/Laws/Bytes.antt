@@ -45,7 +45,7 @@ unfolding joined
 joined-length f w same zero = sym (mul-zero w)
 joined-length f w same (suc n) = length-append (joined f n) (f n) ∙ rw (joined-length f w same n, same n, mul-suc)
 
-pub joined-same : (f g : ℕ → List ℕ) (n : ℕ) → ((i : ℕ) → i < n → f i ≡ g i) → joined f n ≡ joined g n
+pub joined-same : {A : Type 0} (f g : ℕ → List A) (n : ℕ) → ((i : ℕ) → i < n → f i ≡ g i) → joined f n ≡ joined g n
 unfolding joined
 joined-same f g zero same = refl
 joined-same f g (suc n) same = rw (joined-same f g n (λ i l. same i (omega arith)), same n (omega arith))

@@ -1,17 +1,28 @@
--- Rules 8 to 11 and 17 on a record, one law for each rule that is the first to be broken, and what
--- the comparison with a wanted name tells.
+-- Rules 8 to 11 and 17 on a record, one law for each rule that is the first to be broken, what a
+-- name tells that keeps its rules, and what the comparison with a wanted name tells.
 use Prim.Native.Nat.{ℕ, _+_}
 use mathlib.Core.Path.{_≡_, _∙_, ap}
 use mathlib.Core.List.{List}
 use mathlib.Core.Bool.{true, false, and-eq-true-iff}
-use borrow.Author.Tests.{eq-eqb, ne-eqb}
+use borrow.Author.Tests.{eq-eqb, ne-eqb, eqb-true}
 use Rattle.format.specs.Fault.{fault, noFault, unless}
 use Rattle.format.specs.String.{isWhole, stringFault}
 use Rattle.format.specs.Record.{nameOf, bucketOf, imagesAt, images, nameExtent, ownBucket, validImageList, bearsName, imagesFault, nameFault, listFault, recordFault}
 use Rattle.format.specs.Laws.Names.{same-equal}
-use Rattle.format.specs.Laws.Faults.{same-number, orElse-first, orElse-next, unless-broken, broken-speaks, kept-passes}
-use Rattle.format.specs.Laws.Extents.{string-kept, string-broken}
+use Rattle.format.specs.Laws.Faults.{same-number, orElse-none, orElse-first, orElse-next, unless-none, unless-broken, broken-speaks, kept-passes}
+use Rattle.format.specs.Laws.Extents.{string-kept, string-whole, string-broken}
 use Rattle.format.specs.declared.Reading.the-variants.{Short}
+
+-- what a name tells that keeps rules 8, 17 and 9: it is whole, and stands in its own bucket
+pub record ValidName (s : List ℕ) (k r : ℕ) : Type 0 where
+  pub named : isWhole (nameExtent s r) ≡ true
+  pub home : bucketOf s (nameOf s r) ≡ k
+
+pub name-valid : (s : List ℕ) (k r : ℕ) → nameFault s k r .number ≡ 0 → ValidName s k r
+unfolding nameFault
+name-valid s k r e =
+    let both = orElse-none _ _ e in
+    record { named = string-whole _ _ _ (both .0); home = eqb-true _ _ (unless-none _ _ _ (both .1)) }
 
 module _ (s : List ℕ) (k r : ℕ) where
   pub name-unread : isWhole (nameExtent s r) ≡ false → nameFault s k r ≡ stringFault (nameExtent s r) 8 (r + 4)

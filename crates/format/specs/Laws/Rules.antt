@@ -4,7 +4,7 @@ use Prim.Native.Nat.{ℕ, _+_, _*_, _≤_}
 use mathlib.Core.Path.{_≡_, refl, sym, _∙_}
 use mathlib.Core.List.{List}
 use mathlib.Core.Bool.{Bool, true, false, and-eq-true-iff}
-use borrow.Author.Tests.{eqb-true, leb-true}
+use borrow.Author.Tests.{leb-true}
 use lib.ListN.{length}
 use Rattle.format.specs.Choice.{if_then_else_}
 use Rattle.format.specs.Layout.{entriesAt}
@@ -19,9 +19,10 @@ use Rattle.format.specs.declared.Reading.{Reading}
 use Rattle.format.specs.declared.Reading.the-variants.{Short, Long}
 use Rattle.format.specs.Laws.Faults.{same-number, unless-none, orElse-first, orElse-next, orElse-none, orElse-assoc}
 use Rattle.format.specs.Laws.Numbers.{OneOf, tablesNumbers, recordNumbers, unless-one, orElse-one, first-one, widened}
-use Rattle.format.specs.Laws.Extents.{string-whole, string-one}
+use Rattle.format.specs.Laws.Extents.{string-one}
 use Rattle.format.specs.Laws.Header.{header-number}
 use Rattle.format.specs.Laws.Reads.{list-ends}
+use Rattle.format.specs.Laws.Records.{name-valid}
 
 -- what a record tells that keeps rules 8 to 11 and 17: its name is whole and stands in its own
 -- bucket, its images lie inside, and each keeps rule 11
@@ -96,15 +97,15 @@ pub long-notes : (s : List ℕ) (k r : ℕ) → recordFault Short s k r .number 
 long-notes s k r e = record-long s k r ∙ orElse-next _ _ e
 
 pub record-valid : (ρ : Reading) (s : List ℕ) (k r : ℕ) → recordFault ρ s k r .number ≡ 0 → ValidRecord s k r
-unfolding recordFault nameFault listFault
+unfolding recordFault listFault
 record-valid ρ s k r kept =
     let e = keeps-short ρ s k r kept in
-    let name = orElse-none _ _ (orElse-none _ _ e .0) in
+    let name = name-valid s k r (orElse-none _ _ e .0) in
     let list = orElse-none _ _ (orElse-none _ _ e .1) in
     let inside-few = and-eq-true-iff _ _ .0 (unless-none _ _ _ (list .0)) in
     record {
-      named = string-whole _ _ _ (name .0);
-      home = eqb-true _ _ (unless-none _ _ _ (name .1));
+      named = name .named;
+      home = name .home;
       listed = list-ends s (imagesAt s r) 8 (inside-few .0);
       few = leb-true _ _ (inside-few .1);
       images-kept = list .1;

@@ -1,12 +1,12 @@
 -- Texts of 1 to a limit of bytes, none of them zero: what one tells; that one is a whole string
--- where a zero byte ends it; and that the bytes of a whole string are one.
-use Prim.Native.Nat.{ℕ, zero, suc, _≤_, _<_}
+-- where a zero byte ends it; and that the bytes of a whole string are one, and lie inside.
+use Prim.Native.Nat.{ℕ, zero, suc, _+_, _≤_, _<_}
 use mathlib.Core.Path.{_≡_, refl, sym, ap, _∙_}
 use mathlib.Core.List.{List, [], _∷_, _++_}
 use mathlib.Core.Bool.{true, and-eq-true-iff}
 use native.Mathlib.Omega.{arith}
 use borrow.Author.Tests.{ltb-true, leb-true, eqb-true, lt-ltb, le-leb, eq-eqb}
-use lib.ListN.{length, length-append}
+use lib.ListN.{length, drop, length-append, length-drop}
 use lib.Seq.{take-length}
 use Rattle.format.specs.String.{string, extent, isWhole, textWithin, allowed}
 use Rattle.format.specs.Laws.Faults.{also}
@@ -65,3 +65,6 @@ whole-text limit t e =
 pub whole-allowed : (t : List ℕ) → isWhole (extent 255 t) ≡ true → allowed (string t) ≡ true
 unfolding allowed
 whole-allowed t e = whole-text 255 t e
+
+pub whole-inside : (limit : ℕ) (s : List ℕ) (p : ℕ) → isWhole (extent limit (drop p s)) ≡ true → p + length (string (drop p s)) ≤ length s
+whole-inside limit s p e = omega (arith, whole-string limit (drop p s) e .ended, length-drop p s)

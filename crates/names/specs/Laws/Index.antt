@@ -106,3 +106,14 @@ module _ {key : ℕ → List ℕ} {index : List ℕ} {n : ℕ} {before : List (L
       let only : (t : List ℕ) → among t (key p ∷ before) ≡ true → Holds key new (n + 1) t = λ t m.
       ⊎-elim (λ same. rw same (put-new rising spot h put)) (λ was. put-all rising spot h put t (known .exact t .1 was)) (among-either t (key p) before m) in
       record { right = sym (missing-not-met spot); after = record { rising = put-rising rising spot h put; exact = λ t. (all t, only t) } }
+
+-- a key that was met before changes nothing
+pub met-again : {key : ℕ → List ℕ} {index : List ℕ} {n : ℕ} {before : List (List ℕ)} {t : List ℕ} → Represents key index n (t ∷ before) → among t before ≡ true
+    → Represents key index n before
+met-again {before = before} {t} known met = record {
+  rising = known .rising;
+  exact = λ u. (
+    λ h. ⊎-elim (λ same. rw same met) (λ was. was) (among-either u t before (known .exact u .0 h)),
+    λ e. known .exact u .1 (among-rest u t before e),
+  );
+}
