@@ -64,7 +64,7 @@ fn valid_path_text(catalogue: &[u8], at: usize) -> bool
         return false;
     }
     let end = text + length;
-    strings::allowed_path(&catalogue[text..end])
+    paths::allowed_path(&catalogue[text..end])
 }
 
 // The path at `at`: its length, then its text.

@@ -1,16 +1,14 @@
 // The parts of an icon and of a path in a cache, and how many bytes a catalogue has for them.
 ghost use mathlib.Core.Path.{_≡_};
-ghost use mathlib.Core.Bool.{true};
 ghost use Prim.Native.Nat.{_≤_, _<_};
-ghost use lib.ListN.{length, drop};
-ghost use Rattle.format.specs.String.{string, extent, isWhole};
+ghost use lib.ListN.{length};
 ghost use Rattle.format.specs.Header.{directories};
 ghost use Rattle.catalogue.specs.Catalogue.{iconBytes};
 ghost use Rattle.catalogue.specs.Listed.{iconOf};
 ghost use Rattle.gathering.specs.Chains.{Sound};
 ghost use Rattle.export.specs.Parts.{Kept, partsOf, pathPiece};
 use bigendian::u32_at;
-use format::Extent;
+use strings::name_length;
 use tables::Tables;
 
 // Where the name and the images of a record stand, and how many bytes and images they are.
@@ -19,20 +17,6 @@ pub struct IconParts {
     pub length: usize,
     pub images: usize,
     pub count: usize,
-}
-
-// How many bytes the name at `at` has.
-fn name_length(cache: &[u8], at: usize) -> usize
-    requires { ⌜ isWhole (extent 255 (drop at (now cache))) ≡ true ⌝ }
-    ensures { λ r. ⌜ r ≡ length (string (drop at (now (cache .entry)))) ⌝ }
-{
-    let part = strings::from(cache, at);
-    let read = strings::read_name(part);
-    let extent = read.extent;
-    match extent {
-        Extent::Whole(n) => n,
-        _ => 0,
-    }
 }
 
 // The parts of the icon of `record`.

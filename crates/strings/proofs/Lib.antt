@@ -1,3 +1,2 @@
-pub mod Reading
 pub mod Tags
 pub mod Wrapping

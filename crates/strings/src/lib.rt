@@ -1,14 +1,13 @@
-// Strings that end in a zero byte: what one is, as a name with its hash or as a path with its
-// segments; which rule it breaks by that; whether a name is the one asked for, and whether it may
-// be asked for. A string is handed over as the part of the buffer from its offset on.
+// Strings that end in a zero byte: what one is, and which rule it breaks by that; as a name, its
+// hash, whether it is the one asked for, and whether it may be asked for. A string is handed over
+// as the part of the buffer from its offset on.
 ghost use mathlib.Core.Path.{_≡_};
-ghost use mathlib.Core.Bool.{true, _&&_};
+ghost use mathlib.Core.Bool.{true};
 ghost use mathlib.Core.List.{List};
-ghost use Prim.Native.Nat.{ℕ, _-_, _*_, _%_, _^_, _≤_};
+ghost use Prim.Native.Nat.{ℕ, _*_, _%_, _^_};
 ghost use lib.ListN.{length, take, drop};
-ghost use Rattle.format.specs.String.{string, extent, stringFault, spellsName, hash, textWithin, allowed};
+ghost use Rattle.format.specs.String.{string, extent, isWhole, stringFault, spellsName, hash, textWithin, allowed};
 ghost use Rattle.format.specs.String as definition;
-ghost use Rattle.format.specs.Segments.{validSegment, validSegments, allowedPath};
 use format::Extent;
 use format::Fault;
 use std::num::wrapping_add_u8;
@@ -19,13 +18,6 @@ use std::num::wrapping_sub_u32;
 pub struct Name {
     pub extent: Extent,
     pub hash: u32,
-}
-
-// A string as a path, and whether the segments of its first 1,023 bytes are valid: of all of them,
-// unless it is too long.
-pub struct Path {
-    pub extent: Extent,
-    pub valid_segments: bool,
 }
 
 // Whether a name may be asked for, and its hash where it may.
@@ -46,7 +38,7 @@ pub fn from(cache: &[u8], at: usize) -> &[u8]
 }
 
 // What a string is that a zero byte ends after `n` bytes.
-fn ended(n: usize) -> Extent
+pub fn ended(n: usize) -> Extent
     ensures { λ r. ⌜ r ≡ definition.ended n ⌝ }
 {
     if n == 0 {
@@ -141,64 +133,17 @@ pub fn read_name(part: &[u8]) -> Name
     }
 }
 
-// Whether `segment` is one that a path may have: not empty, "." or "..". Of one with three bytes or
-// more no byte is read.
-fn valid_segment(segment: &[u8]) -> bool
-    ensures { λ r. ⌜ r ≡ validSegment (now (segment .entry)) ⌝ }
+// How many bytes the name at `at` has.
+pub fn name_length(cache: &[u8], at: usize) -> usize
+    requires { ⌜ isWhole (extent 255 (drop at (now cache))) ≡ true ⌝ }
+    ensures { λ r. ⌜ r ≡ length (string (drop at (now (cache .entry)))) ⌝ }
 {
-    match segment.len() {
-        0 => false,
-        1 => segment[0] != b'.',
-        2 => segment[0] != b'.' || segment[1] != b'.',
-        _ => true,
-    }
-}
-
-// Whether the segments before are valid, and the one from `start` to `end` too.
-fn valid_to(part: &[u8], before: bool, start: usize, end: usize) -> bool
-    requires { ⌜ (start ≤ end) × (end ≤ length (now part)) ⌝ }
-    ensures { λ r. ⌜ r ≡ (before && validSegment (take (end - start) (drop start (now (part .entry))))) ⌝ }
-{
-    if before {
-        valid_segment(&part[start..end])
-    } else {
-        false
-    }
-}
-
-// What the string at the front of `part` is as a path, and whether its segments are valid. One loop
-// serves both: a segment is judged where it ends. No more than 1,024 bytes are read.
-pub fn read_path(part: &[u8]) -> Path
-    ensures extent { λ r. ⌜ r .extent ≡ extent 1023 (now (part .entry)) ⌝ }
-    ensures segments { λ r. ⌜ r .«valid_segments» ≡ validSegments (take 1023 (string (now (part .entry)))) ⌝ }
-{
-    let mut valid = true;
-    let mut start = 0;
-    let mut i = 0;
-    while i < part.len() {
-        let byte = part[i];
-        if byte == 0 {
-            let valid_segments = valid_to(part, valid, start, i);
-            return Path {
-                extent: ended(i),
-                valid_segments,
-            };
-        }
-        if i == 1023 {
-            return Path {
-                extent: Extent::Long,
-                valid_segments: valid_to(part, valid, start, i),
-            };
-        }
-        if byte == b'/' {
-            valid = valid_to(part, valid, start, i);
-            start = i + 1;
-        }
-        i += 1;
-    }
-    Path {
-        extent: Extent::Cut,
-        valid_segments: valid_to(part, valid, start, i),
+    let part = from(cache, at);
+    let read = read_name(part);
+    let extent = read.extent;
+    match extent {
+        Extent::Whole(n) => n,
+        _ => 0,
     }
 }
 
@@ -224,7 +169,7 @@ pub fn spells(part: &[u8], name: &[u8]) -> bool
 
 // Whether a text of `size` bytes has 1 to a limit of them and none is zero, by what the text is as
 // a string: it has no zero byte and is not too long just where it is cut off.
-fn within(size: usize, extent: Extent) -> bool
+pub fn within(size: usize, extent: Extent) -> bool
     ensures { λ r. ⌜ ((limit : ℕ) (t : List ℕ) → size ≡ length t → extent ≡ definition.extent limit t → r ≡ textWithin limit t) ⌝ }
 {
     if size == 0 {
@@ -247,20 +192,4 @@ pub fn asked(name: &[u8]) -> Query
         allowed: within(name.len(), extent),
         hash: read.hash,
     }
-}
-
-// Whether `path` may stand in a catalogue: with 1 to 1,023 bytes and none of them zero, no slash
-// first, and valid segments.
-pub fn allowed_path(path: &[u8]) -> bool
-    ensures { λ r. ⌜ r ≡ allowedPath (now (path .entry)) ⌝ }
-{
-    let read = read_path(path);
-    let extent = read.extent;
-    if !within(path.len(), extent) {
-        return false;
-    }
-    if path[0] == b'/' {
-        return false;
-    }
-    read.valid_segments
 }

@@ -160,7 +160,7 @@ pub fn path(cache: &[u8], t: Tables, i: u32) -> JudgedPath
     let field = path_field(t, i);
     let start = u32_at(cache, field) as usize;
     let part = strings::from(cache, start);
-    let read = strings::read_path(part);
+    let read = paths::read_path(part);
     let valid_segments = read.valid_segments;
     let extent = read.extent;
     match extent {

@@ -4,19 +4,19 @@ use mathlib.Core.Path.{_≡_, refl, sym, ap, _∙_}
 use mathlib.Core.List.{List, _++_, flatMap, append-assoc}
 use mathlib.Core.Bool.{true}
 use native.Mathlib.Omega.{arith}
-use lib.ListN.{length, drop, length-append, length-drop}
+use lib.ListN.{length, length-append}
 use Rattle.format.specs.Number.{be}
 use Rattle.format.specs.Bytes.{bytes}
-use Rattle.format.specs.String.{string, isWhole}
-use Rattle.format.specs.Header.{directories, pathField, pathPart, pathOf, pathFault}
+use Rattle.format.specs.String.{isWhole}
+use Rattle.format.specs.Header.{directories, pathOf}
 use Rattle.format.specs.Record.{nameOf, namePart, nameExtent, imagesAt, images}
-use Rattle.format.specs.Laws.Faults.{orElse-none, kept-takes}
 use Rattle.format.specs.Laws.Bytes.{bytes-length}
-use Rattle.format.specs.Laws.Extents.{string-whole}
-use Rattle.format.specs.Laws.Strings.{WholeString, whole-string, string-front}
+use Rattle.format.specs.Laws.Strings.{whole-string, string-front}
+use Rattle.format.specs.Laws.Texts.{whole-inside}
 use Rattle.format.specs.Laws.Rules.{record-valid, tables-paths}
 use Rattle.format.specs.declared.Reading.the-variants.{Short}
 use Rattle.tables.specs.Tables.{pathJudged}
+use Rattle.tables.specs.Laws.{PathInside, path-inside, path-size, path-text}
 use Rattle.tables.specs.declared.Tables.{Tables}
 use Rattle.tables.specs.declared.JudgedPath.{JudgedPath}
 use Rattle.catalogue.specs.Row.{row}
@@ -31,10 +31,6 @@ use Rattle.catalogue.specs.Laws.Icons.{paths-each}
 use Rattle.gathering.specs.Chains.{Sound}
 use Rattle.export.specs.Parts.{Kept, partsOf, pathPiece}
 use Rattle.export.specs.declared.parts.IconParts.{IconParts}
-
--- a whole string ends inside
-whole-inside : (limit : ℕ) (s : List ℕ) (p : ℕ) → WholeString limit (drop p s) → p + length (string (drop p s)) ≤ length s
-whole-inside limit s p h = omega (arith, h .ended, length-drop p s)
 
 -- the parts of the icon of a record lie inside, and there are few
 pub record IconInside (s : List ℕ) (r : ℕ) : Type 0 where
@@ -52,7 +48,7 @@ icon-inside {s} {r} h =
     record {
       inside = h .keeps .inside;
       whole = valid .named;
-      named = whole-inside 255 s (be 4 s (r + 4)) name;
+      named = whole-inside 255 s (be 4 s (r + 4)) (valid .named);
       short = name .within;
       listed = valid .listed;
       few = valid .few;
@@ -88,32 +84,13 @@ module _ (s : List ℕ) (small : AreBytes s) where
       ∙ ap (λ n. front ++ (bytes 2 n ++ flatMap imageBytes (imagesFrom m s p))) (sym (row-length (imageAt s) imageEnd m p))
       ∙ sym (append-assoc front (bytes 2 (length (imagesFrom m s p))) (flatMap imageBytes (imagesFrom m s p)))
 
--- the same of the path of a directory
-pub record PathInside (s : List ℕ) (i : ℕ) : Type 0 where
-  pub kept : pathFault s i .number ≡ 0
-  pub inside : be 4 s (pathField s i) + length (pathOf s i) ≤ length s
-  pub short : length (pathOf s i) ≤ 1023
-
-pub path-inside : {s : List ℕ} {t : Tables} → Sound s t → (i : ℕ) → i < directories s → PathInside s i
-unfolding pathFault
-path-inside {s} h i l =
-    let kept : pathFault s i .number ≡ 0 = paths-each s (directories s) i (rw (tables-paths s (h .tables .header)) at (h .accepted .tables-kept)) l in
-    let path = whole-string 1023 (pathPart s i) (string-whole _ _ _ (orElse-none _ _ kept .0)) in
-    record { kept = kept; inside = whole-inside 1023 s (be 4 s (pathField s i)) path; short = path .within }
+-- each path lies inside
+pub each-path-inside : {s : List ℕ} {t : Tables} → Sound s t → (i : ℕ) → i < directories s → PathInside s i
+each-path-inside {s} h i l = path-inside s i (paths-each s (directories s) i (rw (tables-paths s (h .tables .header)) at (h .accepted .tables-kept)) l)
 
 pub path-length : (s : List ℕ) (i : ℕ) → length (pathPiece s i) ≡ 2 + length (pathOf s i)
 path-length s i = length-append (bytes 2 (length (pathOf s i))) (pathOf s i) ∙ rw (bytes-length 2 (length (pathOf s i)))
 
--- what is read of it
-module _ {s : List ℕ} {i : ℕ} {p : JudgedPath} (read : p ≡ pathJudged s i) (h : PathInside s i) where
-  pub path-start : p .start ≡ be 4 s (pathField s i)
-  path-start = ap (λ (p : JudgedPath). p .start) read ∙ kept-takes (pathFault s i) _ _ (h .kept)
-
-  pub path-size : p .length ≡ length (pathOf s i)
-  path-size = ap (λ (p : JudgedPath). p .length) read ∙ kept-takes (pathFault s i) _ _ (h .kept)
-
-  pub path-is : bytes 2 (p .length) ++ part s (p .start) (p .length) ≡ pathPiece s i
-  path-is =
-      ap (λ n. bytes 2 n ++ part s (p .start) n) path-size
-      ∙ ap (λ q. bytes 2 (length (pathOf s i)) ++ part s q (length (pathOf s i))) path-start
-      ∙ ap (λ t. bytes 2 (length (pathOf s i)) ++ t) (string-front (pathPart s i))
+-- what is put for it
+pub path-is : {s : List ℕ} {i : ℕ} {p : JudgedPath} → p ≡ pathJudged s i → PathInside s i → bytes 2 (p .length) ++ part s (p .start) (p .length) ≡ pathPiece s i
+path-is {s} {i} {p} read h = ap (λ n. bytes 2 n ++ part s (p .start) (p .length)) (path-size read h) ∙ ap (λ t. bytes 2 (length (pathOf s i)) ++ t) (path-text read h)

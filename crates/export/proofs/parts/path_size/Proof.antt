@@ -1,12 +1,13 @@
 -- `export::parts::path_size` meets its contract: the path keeps the rules, so its length is read.
 use native.Mathlib.Omega.{arith}
 use denote.Ref.{now}
-use Rattle.export.specs.Laws.Parts.{PathInside, path-inside, path-length, path-size}
+use Rattle.tables.specs.Laws.{PathInside, path-size}
+use Rattle.export.specs.Laws.Parts.{each-path-inside, path-length}
 use Rattle.export.proofs.parts.path_size.Statement.{statement}
 use Rattle.export.proofs.parts.path_size.Tie as tie
 
 inside : (c : tie.After-path) → PathInside (now (c .before .before .args .cache)) (c .before .before .args .i)
-inside c = let start = c .before .before in path-inside (start .pre .0) (start .args .i) (start .pre .1)
+inside c = let start = c .before .before in each-path-inside (start .pre .0) (start .args .i) (start .pre .1)
 
 returns : tie.Need-returns
 returns c =

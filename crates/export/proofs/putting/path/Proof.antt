@@ -4,12 +4,13 @@ use native.Mathlib.Omega.{arith}
 use borrow.Author.Needs.{needs}
 use denote.Ref.{now}
 use Rattle.format.specs.Bytes.{put}
-use Rattle.export.specs.Laws.Parts.{PathInside, path-inside, path-length, path-start, path-size, path-is}
+use Rattle.tables.specs.Laws.{PathInside, path-start, path-size}
+use Rattle.export.specs.Laws.Parts.{each-path-inside, path-length, path-is}
 use Rattle.export.proofs.putting.path.Statement.{statement}
 use Rattle.export.proofs.putting.path.Tie as tie
 
 inside : (c : tie.After-path) → let a = c .before .before .before .args in PathInside (now (a .cache)) (a .i)
-inside c = let start = c .before .before .before in path-inside (start .pre .0 .0) (start .args .i) (start .pre .0 .1)
+inside c = let start = c .before .before .before in each-path-inside (start .pre .0 .0) (start .args .i) (start .pre .0 .1)
 
 counted-requires : tie.Need-counted-requires
 counted-requires c κs =

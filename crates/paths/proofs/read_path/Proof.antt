@@ -1,4 +1,4 @@
--- `strings::read_path` meets its contract. The bytes of the string are passed one by one
+-- `paths::read_path` meets its contract. The bytes of the string are passed one by one
 -- (`Passed`), so at each `return` its length is known. What is left from the last segment's start
 -- on is that segment, as far as it is read, and the bytes not read yet; it and the segments before,
 -- judged together, are the whole path judged (`Reading`).
@@ -10,9 +10,9 @@ use borrow.Author.Needs.{needs}
 use lib.ListN.{length, List·getD-eq-default}
 use Rattle.format.specs.Laws.Strings.{none-left, none-within, extent-ended, extent-long, extent-cut}
 use Rattle.format.specs.Laws.Segments.{none-free}
-use Rattle.strings.proofs.Reading.{Reading, at-end, next-byte, next-slash, same-reading}
-use Rattle.strings.proofs.read_path.Statement.{statement}
-use Rattle.strings.proofs.read_path.Tie as tie
+use Rattle.paths.proofs.Reading.{Reading, at-end, next-byte, next-slash, same-reading}
+use Rattle.paths.proofs.read_path.Statement.{statement}
+use Rattle.paths.proofs.read_path.Tie as tie
 
 abbrev Inv-loop : tie.InvT-loop
 Inv-loop part valid₀ start₀ i₀ valid start i = Reading part valid start i

@@ -1,14 +1,14 @@
--- `export::parts::name_length` meets its contract: the string is whole, so it is found so.
+-- `strings::name_length` meets its contract: the string is whole, so it is found so.
 use mathlib.Core.Path.{_≡_, sym, ap, _∙_}
-use mathlib.Core.Bool.{true, false≢true}
+use mathlib.Core.Bool.{false≢true}
 use borrow.Author.Needs.{needs}
 use lib.ListN.{drop}
 use denote.Ref.{now}
 use Rattle.format.specs.String.{extent, isWhole}
 use Rattle.format.specs.Laws.Strings.{whole-length}
 use Rattle.strings.proofs.Tags.{tag-not-whole}
-use Rattle.export.proofs.parts.name_length.Statement.{statement}
-use Rattle.export.proofs.parts.name_length.Tie as tie
+use Rattle.strings.proofs.name_length.Statement.{statement}
+use Rattle.strings.proofs.name_length.Tie as tie
 
 extent-is : (c : tie.After-read-name) → let a = c .before .before .before .args in c .read-name .result .extent ≡ extent 255 (drop (a .at) (now (a .cache)))
 extent-is c = c .read-name .ensures .0 ∙ ap (extent 255) (c .before .from .ensures)

@@ -1,4 +1,4 @@
--- `strings::allowed_path` meets its contract: an `if` for each part of the definition. A text
+-- `paths::allowed_path` meets its contract: an `if` for each part of the definition. A text
 -- within the limit has a first byte, and its segments were read to its end.
 use mathlib.Core.Path.{_≡_, refl, sym, ap, _∙_}
 use mathlib.Core.Bool.{true}
@@ -10,8 +10,8 @@ use denote.Ref.{now}
 use Rattle.format.specs.String.{textWithin}
 use Rattle.format.specs.Segments.{validSegments, allowedPath}
 use Rattle.format.specs.Laws.Texts.{TextWithin, text-tells}
-use Rattle.strings.proofs.allowed_path.Statement.{statement}
-use Rattle.strings.proofs.allowed_path.Tie as tie
+use Rattle.paths.proofs.allowed_path.Statement.{statement}
+use Rattle.paths.proofs.allowed_path.Tie as tie
 
 within-is : (c : tie.After-within) → c .within .result ≡ textWithin 1023 (now (c .before .before .before .args .path))
 within-is c = c .within .ensures _ _ refl (c .before .read-path .ensures .0)

@@ -1,4 +1,4 @@
--- `strings::valid_segment` meets its contract: the definition asks what the arms of the code's
+-- `paths::valid_segment` meets its contract: the definition asks what the arms of the code's
 -- `match` on the length ask (`tested`), and each arm knows the answers.
 use Prim.Native.Nat.{ℕ, zero, suc, _-_}
 use mathlib.Core.Path.{_≡_, refl}
@@ -11,8 +11,8 @@ use lib.Dec.{eqb}
 use lib.ListN.{length, getD}
 use Rattle.format.specs.String.{sameBytes}
 use Rattle.format.specs.Segments.{dot, validSegment}
-use Rattle.strings.proofs.valid_segment.Statement.{statement}
-use Rattle.strings.proofs.valid_segment.Tie as tie
+use Rattle.paths.proofs.valid_segment.Statement.{statement}
+use Rattle.paths.proofs.valid_segment.Tie as tie
 
 -- at a length, by the first two bytes
 abbrev arms : ℕ → ℕ → ℕ → Bool

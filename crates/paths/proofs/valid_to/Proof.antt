@@ -1,8 +1,8 @@
--- `strings::valid_to` meets its contract: the part handed on is the segment.
+-- `paths::valid_to` meets its contract: the part handed on is the segment.
 use mathlib.Core.Path.{_∙_}
 use borrow.Author.Needs.{needs}
-use Rattle.strings.proofs.valid_to.Statement.{statement}
-use Rattle.strings.proofs.valid_to.Tie as tie
+use Rattle.paths.proofs.valid_to.Statement.{statement}
+use Rattle.paths.proofs.valid_to.Tie as tie
 
 returns : tie.Need-returns
 returns c = c .valid-segment .ensures ∙ rw (c .before .before .if1 .taken)
