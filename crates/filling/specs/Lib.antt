@@ -1,0 +1,3 @@
+-- What the functions of this crate hand to their callers.
+pub mod Puts
+pub mod Laws
