@@ -1,0 +1,4 @@
+-- What the proofs of the code rest on. A reader of the contracts need not read what stands here.
+pub mod Fate
+pub mod Images
+pub mod Icon
