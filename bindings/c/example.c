@@ -1,7 +1,7 @@
 /*
  * Checks a cache in both ways, prints the images of one icon, each with its directory, flags and
- * notes, two short pages of the icons, and which image of the icon is picked for some sizes, and
- * lists the cache as a catalogue and writes it again: example CACHE NAME
+ * notes, two short pages of the icons, and which image of the icon is picked for some sizes, lists
+ * the cache as a catalogue and writes it again, and saves what is sound of it: example CACHE NAME
  */
 #include "icon_cache.h"
 
@@ -308,6 +308,31 @@ static void write_again(void)
     }
 }
 
+static uint32_t report[LARGEST / 2]; /* enough unless parts of the cache overlap or are shared */
+
+/*
+ * Saves what is sound, prints the rows of what went, and writes a cache of what is left, which the
+ * check accepts.
+ */
+static void repair(void)
+{
+    size_t place, saved, rows, length, directories, icons, opened, longest;
+    uint32_t number = icon_cache_salvage(cache, cache_len, catalogue, sizeof catalogue, report,
+                                         sizeof report / sizeof report[0], &place, &saved, &rows);
+    if (!say_written("salvage", number, place, saved)) {
+        return;
+    }
+    for (size_t i = 0; i < rows; i++) {
+        printf("  gone: %u at %u\n", (unsigned)report[2 * i], (unsigned)report[2 * i + 1]);
+    }
+    number = icon_cache_write(catalogue, saved, 3, written, sizeof written, &place, &length);
+    if (say_written("write what is left", number, place, length)) {
+        number = icon_cache_check(written, length, &place, &directories, &icons, &opened, &longest);
+        printf("check of that: answer %u, %zu icons, %zu directories\n",
+               (unsigned)number, icons, directories);
+    }
+}
+
 int main(int argc, char **argv)
 {
     if (argc != 3) {
@@ -323,5 +348,6 @@ int main(int argc, char **argv)
     list(); /* what it refuses, the check has refused too */
     pick_some(argv[2]);
     write_again();
+    repair();
     return refused || not_found;
 }

@@ -1,12 +1,12 @@
 /*
- * Reading and writing an icon theme cache (icon-theme.cache): C99, usable from
- * C++.
+ * Reading, writing and repairing an icon theme cache (icon-theme.cache): C99,
+ * usable from C++.
  *
  * Every function takes any bytes in the cache or the catalogue, any name, any
  * words and any number, and returns an answer number:
  *
- *    0  accepted, found, handed back, picked     place: 0, the record found, or
- *       or written                                      the image picked
+ *    0  accepted, found, handed back, picked,    place: 0, the record found, or
+ *       written or salvaged                             the image picked
  *    1  fewer than 12 bytes                      place: 0
  *    2  more than 16,777,216 bytes               place: 0
  *    3  the version is not 1.0                   place: 0
@@ -70,13 +70,15 @@
  *  - a pointer that comes with a length points to that many bytes or words, and
  *    is not NULL even where the length is 0;
  *  - what is lent as const is not written to while a call runs, by any thread,
- *    and what is written to, as `words`, does not overlap it;
+ *    and what is written to, as `words`, overlaps neither that nor another part
+ *    that is written to;
  *  - each output pointer points to one object of its own; bucket and count are
  *    read too, so a number stands in both.
  * Nothing is kept after a call returns, and nothing is allocated.
  * icon_cache_write and icon_cache_catalogue take up to 300 KiB of stack, for an
- * index of names or records; no other call takes more than 700 bytes. Calls on
- * different outputs may run at the same time.
+ * index of names or records, and icon_cache_salvage up to 400 KiB; no other call
+ * takes more than 700 bytes. Calls on different outputs may run at the same
+ * time.
  */
 #ifndef ICON_CACHE_H
 #define ICON_CACHE_H
@@ -362,6 +364,56 @@ uint32_t icon_cache_write(const uint8_t *catalogue, size_t catalogue_len, size_t
 uint32_t icon_cache_catalogue(const uint8_t *cache, size_t cache_len,
                               uint8_t *catalogue, size_t catalogue_len,
                               size_t *place, size_t *length);
+
+/*
+ * Saves what is sound of a cache that may be damaged: a catalogue of it, with
+ * the icons in the order in which the check meets them, and a report of what
+ * went, in the order met. The report has rows of two words, number and place.
+ *
+ * First the paths, by index. A directory whose path breaks 6, 16 or 17 goes, as
+ * icon_cache_directory answers, and the images in it go without rows. The
+ * indexes of the other directories close up.
+ *
+ * Then each bucket's chain, record by record. On the way to a record
+ *
+ *    12  cuts the chain before one that this chain has met, whatever became of
+ *        it: the row stands at the bucket field, after the chain's other rows
+ *     7  ends the chain: the record is not wholly inside
+ *
+ * and on each record that is met, asked in this order
+ *
+ *     8, 9 or 17, of its name: it goes, and the chain ends there
+ *    10  it goes, and the walk goes on
+ *    20  its name equals that of an icon kept before, at record + 4: it goes,
+ *        and the walk goes on
+ *    11  each image that breaks 11 goes, with a row for each, be its directory
+ *        kept or not. An index is judged by the count of directories in the
+ *        cache, and 0xFFFF is good only where that is 0
+ *
+ * An icon whose images all went stays. So each time a record is met, it is kept
+ * or has one row of 8, 9, 10, 17 or 20. Of a cache that the check accepts all is
+ * kept, but for icons whose name an icon before them has.
+ *
+ * With 0, *length is how many bytes were written at the front of `catalogue`,
+ * and *rows how many rows at the front of `report`, two words each; the bytes
+ * and words beyond are as they were. With any other number both are 0 and all
+ * bytes and words are as they were. What is saved is a good catalogue: for 1 to
+ * 4,096 buckets the writer answers 0 to it, or 19.
+ *
+ * In this order it refuses
+ *
+ *     1  to 5, as the check does
+ *    21  more than 65,535 icons kept, at 0
+ *    19  too little room for the catalogue or for the report, at 0. Where
+ *        records share lists and strings, both may be much longer than the cache
+ *
+ * 65,535 icons take some tenths of a second; a cache of 16 MiB that was made to
+ * cost time can take some seconds.
+ */
+uint32_t icon_cache_salvage(const uint8_t *cache, size_t cache_len,
+                            uint8_t *catalogue, size_t catalogue_len,
+                            uint32_t *report, size_t report_len,
+                            size_t *place, size_t *length, size_t *rows);
 
 #ifdef __cplusplus
 }

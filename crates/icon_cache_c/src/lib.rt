@@ -12,6 +12,7 @@ ghost use Rattle.listing.specs.Listing.{position, step, stepIs};
 ghost use Rattle.flags.specs.Flags.{flagsIs, flagsIn, flagsOut};
 ghost use Rattle.image_data.specs.Call.{rectangleIs, pointIs, stringIs, rectangle, attachPoint, displayLanguage, displayText};
 ghost use Rattle.catalogue.specs.Call.{writeIs, write, writeLeaves, catalogueOf, catalogueLeaves};
+ghost use Rattle.salvage_spec.specs.Call.{salvageIs, salvage, bytesLeft, wordsLeft};
 use format::CheckAnswer;
 use listing::Position;
 
@@ -269,5 +270,25 @@ pub extern "C" fn icon_cache_catalogue(
     let answer = export::catalogue_of(cache, catalogue);
     *place = answer.place;
     *listed = answer.length;
+    answer.number
+}
+
+#[no_mangle]
+pub extern "C" fn icon_cache_salvage(
+    cache: &[u8],
+    catalogue: &mut [u8],
+    report: &mut [u32],
+    place: &mut usize,
+    saved: &mut usize,
+    rows: &mut usize,
+) -> u32
+    ensures answer { λ r. ⌜ salvageIs r (now (place .exit)) (now (saved .exit)) (now (rows .exit)) ≡ salvage (now (cache .entry)) (length (now (catalogue .entry))) (length (now (report .entry))) ⌝ }
+    ensures bytes { λ r. ⌜ now (catalogue .exit) ≡ bytesLeft (now (cache .entry)) (now (catalogue .entry)) (now (report .entry)) ⌝ }
+    ensures words { λ r. ⌜ now (report .exit) ≡ wordsLeft (now (cache .entry)) (now (catalogue .entry)) (now (report .entry)) ⌝ }
+{
+    let answer = salvage::salvage(cache, catalogue, report);
+    *place = answer.place;
+    *saved = answer.length;
+    *rows = answer.rows;
     answer.number
 }
