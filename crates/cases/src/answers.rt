@@ -47,7 +47,7 @@ pub fn begin_lookup(case: &[u8], answer: LookupAnswer) {
     count(b", opened ", answer.opened);
 }
 
-fn print_words(words: &[u32]) {
+pub fn print_words(words: &[u32]) {
     if words.len() == 0 {
         print(b", no words");
         return;

@@ -5,6 +5,7 @@ use crate::icons;
 use crate::images;
 use crate::notes;
 use crate::picks;
+use crate::salvages;
 use cases_made::script;
 use cases_made::script::Words;
 use listing::Position;
@@ -44,6 +45,7 @@ pub fn ask(case: &[u8], line: &[u8], w: Words, buffer: &[u8], length: usize) {
         b'n' => answers::flags(w.a, w.b),
         b's' => step(case, cache, w.a, w.b),
         b'v' => notes::view(case, cache, w.a, w.b),
+        b'y' => salvages::save(case, cache, w.a, w.b, buffer),
         _ => {}
     }
 }

@@ -8,6 +8,7 @@ mod icons;
 mod images;
 mod notes;
 mod picks;
+mod salvages;
 
 use cases_made::Lengths;
 use cases_made::script;
