@@ -1,6 +1,6 @@
 // Strings that end in a zero byte: what one is, and which rule it breaks by that; as a name, its
-// hash, whether it is the one asked for, and whether it may be asked for. A string is handed over
-// as the part of the buffer from its offset on.
+// hash and its length, whether it is the one asked for, and whether it may be asked for. A string
+// is handed over as the part of the buffer from its offset on.
 ghost use mathlib.Core.Path.{_≡_};
 ghost use mathlib.Core.Bool.{true};
 ghost use mathlib.Core.List.{List};

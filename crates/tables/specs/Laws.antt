@@ -2,10 +2,11 @@
 -- that keeps the rules lies inside.
 use Prim.Native.Nat.{ℕ, _+_, _≤_, _<_}
 use mathlib.Core.Path.{_≡_, ap, _∙_}
-use mathlib.Core.List.{List}
+use mathlib.Core.List.{List, _++_}
 use native.Mathlib.Omega.{arith}
 use lib.ListN.{length, take, drop}
 use Rattle.format.specs.Number.{be}
+use Rattle.format.specs.Bytes.{bytes}
 use Rattle.format.specs.Header.{buckets, bucketField, directories, pathField, pathPart, pathOf, pathFault}
 use Rattle.format.specs.Laws.Faults.{orElse-none, kept-takes}
 use Rattle.format.specs.Laws.Extents.{string-whole}
@@ -54,3 +55,7 @@ module _ {s : List ℕ} {i : ℕ} {p : JudgedPath} (read : p ≡ pathJudged s i)
 
   pub path-text : take (p .length) (drop (p .start) s) ≡ pathOf s i
   path-text = rw (path-size, path-start) (string-front (pathPart s i))
+
+  -- and its bytes behind their count
+  pub path-is : bytes 2 (p .length) ++ take (p .length) (drop (p .start) s) ≡ bytes 2 (length (pathOf s i)) ++ pathOf s i
+  path-is = ap (λ n. bytes 2 n ++ take (p .length) (drop (p .start) s)) path-size ∙ ap (λ t. bytes 2 (length (pathOf s i)) ++ t) path-text

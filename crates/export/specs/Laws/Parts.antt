@@ -15,10 +15,8 @@ use Rattle.format.specs.Laws.Strings.{whole-string, string-front}
 use Rattle.format.specs.Laws.Texts.{whole-inside}
 use Rattle.format.specs.Laws.Rules.{record-valid, tables-paths}
 use Rattle.format.specs.declared.Reading.the-variants.{Short}
-use Rattle.tables.specs.Tables.{pathJudged}
-use Rattle.tables.specs.Laws.{PathInside, path-inside, path-size, path-text}
+use Rattle.tables.specs.Laws.{PathInside, path-inside}
 use Rattle.tables.specs.declared.Tables.{Tables}
-use Rattle.tables.specs.declared.JudgedPath.{JudgedPath}
 use Rattle.catalogue.specs.Row.{row}
 use Rattle.catalogue.specs.Catalogue.{imageBytes, iconBytes}
 use Rattle.catalogue.specs.Fields.{AreBytes, part, imageAt, imageEnd, imagesFrom}
@@ -90,7 +88,3 @@ each-path-inside {s} h i l = path-inside s i (paths-each s (directories s) i (rw
 
 pub path-length : (s : List ℕ) (i : ℕ) → length (pathPiece s i) ≡ 2 + length (pathOf s i)
 path-length s i = length-append (bytes 2 (length (pathOf s i))) (pathOf s i) ∙ rw (bytes-length 2 (length (pathOf s i)))
-
--- what is put for it
-pub path-is : {s : List ℕ} {i : ℕ} {p : JudgedPath} → p ≡ pathJudged s i → PathInside s i → bytes 2 (p .length) ++ part s (p .start) (p .length) ≡ pathPiece s i
-path-is {s} {i} {p} read h = ap (λ n. bytes 2 n ++ part s (p .start) (p .length)) (path-size read h) ∙ ap (λ t. bytes 2 (length (pathOf s i)) ++ t) (path-text read h)

@@ -1,7 +1,7 @@
 -- The catalogue that a cache is listed as is made of the pieces of its paths and of its records.
 use Prim.Native.Nat.{ℕ, zero, suc, _+_, _≤_, _<_}
 use mathlib.Core.Path.{_≡_, refl, sym, ap, _∙_}
-use mathlib.Core.List.{List, [], _∷_, _++_, map, flatMap, append-assoc, append-nil}
+use mathlib.Core.List.{List, [], _∷_, _++_, map, flatMap, append-nil}
 use native.Mathlib.Decide.{ℕ-discrete}
 use native.Mathlib.Numerals.{add-one}
 use native.Mathlib.Omega.{arith}
@@ -10,7 +10,7 @@ use lib.Seq.{getD-at}
 use Rattle.format.specs.Bytes.{bytes, joined, put}
 use Rattle.format.specs.Header.{directories, pathOf}
 use Rattle.format.specs.Chain.{allRecords}
-use Rattle.format.specs.Laws.Bytes.{bytes-length}
+use Rattle.format.specs.Laws.Bytes.{bytes-length, flat-append}
 use Rattle.format.specs.Laws.Put.{put-then}
 use Rattle.format.specs.Laws.Links.{on-chain}
 use Rattle.format.specs.declared.Reading.the-variants.{Short}
@@ -32,11 +32,6 @@ firsts-at f (suc n) i d l = elim (ℕ-discrete i n) [
   | yes e ↦ rw e (getD-at (firsts f n) (f n) [] d n (firsts-length f n))
   | no a ↦ List·getD-append (firsts f n) (f n ∷ []) d i (omega (arith, firsts-length f n)) ∙ firsts-at f n i d (omega arith)
 ]
-
-flat-append : {A : Type 0} (f : A → List ℕ) (xs ys : List A) → flatMap f (xs ++ ys) ≡ flatMap f xs ++ flatMap f ys
-unfolding flatMap
-flat-append f [] ys = refl
-flat-append f (x ∷ xs) ys = ap (λ l. f x ++ l) (flat-append f xs ys) ∙ sym (append-assoc (f x) (flatMap f xs) (flatMap f ys))
 
 flat-firsts : {A : Type 0} (f : A → List ℕ) (g : ℕ → A) (n : ℕ) → flatMap f (firsts g n) ≡ joined (λ i. f (g i)) n
 unfolding flatMap firsts joined

@@ -2,7 +2,7 @@
 -- are together.
 use Prim.Native.Nat.{ℕ, zero, suc, _+_, _*_, _/_, _%_, _^_, _<_}
 use mathlib.Core.Path.{_≡_, refl, sym, _∙_}
-use mathlib.Core.List.{List, [], _∷_, _++_, append-assoc, append-nil}
+use mathlib.Core.List.{List, [], _∷_, _++_, append-assoc, append-nil, flatMap}
 use native.Mathlib.Nat.{zero-add, add-zero, add-suc, mul-zero, mul-one, mul-suc, mul-assoc, pow-suc, mul-add-div-right, mul-add-mod-self-right, div-add-mod', div-lt-iff-lt-mul}
 use native.Mathlib.Omega.{arith}
 use lib.Dec.{lit≤}
@@ -49,3 +49,9 @@ pub joined-same : {A : Type 0} (f g : ℕ → List A) (n : ℕ) → ((i : ℕ) �
 unfolding joined
 joined-same f g zero same = refl
 joined-same f g (suc n) same = rw (joined-same f g n (λ i l. same i (omega arith)), same n (omega arith))
+
+-- what is made of two lists, one after the other
+pub flat-append : {A B : Type 0} (f : A → List B) (x y : List A) → flatMap f (x ++ y) ≡ flatMap f x ++ flatMap f y
+unfolding flatMap
+flat-append f [] y = refl
+flat-append f (a ∷ x) y = rw (flat-append f x y) (sym (append-assoc (f a) (flatMap f x) (flatMap f y)))

@@ -8,7 +8,7 @@ use native.Mathlib.Numerals.{add-one}
 use native.Mathlib.Omega.{arith}
 use lib.Dec.{lit≤}
 use lib.ListN.{length, take, drop, take-append-drop, length-append, length-drop}
-use lib.Seq.{drop-drop, take-at, drop-at, drop-append-add, drop-append-le, take-append-add, take-append-le, length-take-le}
+use lib.Seq.{drop-drop, take-at, drop-at, drop-append-add, drop-append-le, take-append-add, take-append-le, take-take, length-take-le}
 use Rattle.format.specs.Number.{be}
 use Rattle.format.specs.Bytes.{bytes, joined, put}
 use Rattle.format.specs.Laws.Reads.{be-drop}
@@ -54,6 +54,24 @@ put-more s p xs ys {q} e fits =
     ap (λ l. l ++ ys ++ drop (q + length ys) (put s p xs)) (take-at (take p s ++ xs) (drop (p + length xs) s) q before)
     ∙ ap (λ l. take p s ++ xs ++ ys ++ l) (put-behind s p xs room (q + length ys) (omega arith))
     ∙ rw (end, append-assoc (take p s) xs ys)
+
+-- one part put before another
+pub put-before : (s : List ℕ) (p : ℕ) (xs ys : List ℕ) {q : ℕ} → p + length xs ≡ q → q + length ys ≤ length s → put (put s q ys) p xs ≡ put s p (xs ++ ys)
+unfolding put
+put-before s p xs ys {q} e fits =
+    let behind = drop (q + length ys) s in
+    let before : length (take q s) ≡ q = length-take-le q s (omega arith) in
+    let apart : put s q ys ≡ take q s ++ (ys ++ behind) = append-assoc (take q s) ys behind in
+    let front : take p (put s q ys) ≡ take p s =
+    ap (take p) apart ∙ take-append-le p (take q s) (ys ++ behind) (omega arith) ∙ take-take p q s (omega arith) in
+    let rest : drop (p + length xs) (put s q ys) ≡ ys ++ behind =
+    ap (λ n. drop n (put s q ys)) e ∙ ap (drop q) apart ∙ drop-at (take q s) (ys ++ behind) q before in
+    let end : q + length ys ≡ p + length (xs ++ ys) = omega (arith, length-append xs ys) in
+    ap (λ l. l ++ xs ++ drop (p + length xs) (put s q ys)) front
+    ∙ ap (λ l. take p s ++ xs ++ l) rest
+    ∙ sym (append-assoc (take p s ++ xs) ys behind)
+    ∙ ap (λ l. l ++ behind) (append-assoc (take p s) xs ys)
+    ∙ ap (λ n. take p s ++ (xs ++ ys) ++ drop n s) end
 
 -- a part put over one that is not longer
 pub put-over : (s : List ℕ) (p : ℕ) (xs ys : List ℕ) → length xs ≤ length ys → p + length ys ≤ length s → put (put s p xs) p ys ≡ put s p ys

@@ -4,8 +4,8 @@ use native.Mathlib.Omega.{arith}
 use borrow.Author.Needs.{needs}
 use denote.Ref.{now}
 use Rattle.format.specs.Bytes.{put}
-use Rattle.tables.specs.Laws.{PathInside, path-start, path-size}
-use Rattle.export.specs.Laws.Parts.{each-path-inside, path-length, path-is}
+use Rattle.tables.specs.Laws.{PathInside, path-start, path-size, path-is}
+use Rattle.export.specs.Laws.Parts.{each-path-inside, path-length}
 use Rattle.export.proofs.putting.path.Statement.{statement}
 use Rattle.export.proofs.putting.path.Tie as tie
 
