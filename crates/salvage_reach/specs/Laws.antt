@@ -1,5 +1,5 @@
 -- What the proofs of the code rest on. A reader of the contracts need not read what stands here.
 pub mod Rounds
-pub mod Extents
+pub mod Reach
 pub mod Marks
 pub mod Ahead

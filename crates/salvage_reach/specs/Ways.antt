@@ -56,9 +56,9 @@ pub record Reaches (s : List ℕ) (k : ℕ) (e : Reached) : Type 0 where
   pub met : met s k ≡ e .met
   pub cut : cut s k ≡ e .cut
 
-abbrev pub Goes : List ℕ → ℕ → Way → Type 0
-Goes s k (Stops e) = Reaches s k e
-Goes s k (Turns r) = RoundOf s k (r .start) (r .steps)
+abbrev pub WayOf : List ℕ → ℕ → Way → Type 0
+WayOf s k (Stops e) = Reaches s k e
+WayOf s k (Turns r) = RoundOf s k (r .start) (r .steps)
 
 -- the mark after the record r is passed at step n: moved up to it if n is the step until which it
 -- stays

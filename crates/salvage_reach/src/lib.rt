@@ -6,7 +6,7 @@ ghost use lib.ListN.{length};
 ghost use Rattle.format.specs.Fault.{fault};
 ghost use Rattle.format.specs.Header.{buckets};
 ghost use Rattle.tables.specs.Tables.{TablesOf};
-ghost use Rattle.salvage_reach.specs.Ways.{Turned, Goes, Reaches, moved, reachedAt};
+ghost use Rattle.salvage_reach.specs.Ways.{Turned, WayOf, Reaches, moved, reachedAt};
 use bigendian::u32_at;
 use format::Fault;
 use records::judge_name;
@@ -99,7 +99,7 @@ fn reached_at(met: usize, number: u32, place: usize) -> Reached
 // to be remembered but the marked one (Brent's way).
 fn find_way(cache: &[u8], t: Tables, bucket: u32) -> Way
     requires { ⌜ TablesOf (now cache) t × (bucket < buckets (now cache)) ⌝ }
-    ensures { λ r. ⌜ Goes (now (cache .entry)) bucket r ⌝ }
+    ensures { λ r. ⌜ WayOf (now (cache .entry)) bucket r ⌝ }
 {
     let mut field = bucket_field(t, bucket);
     let mut mark = Mark {

@@ -10,11 +10,11 @@ use Rattle.format.specs.declared.Fault.{Fault}
 use Rattle.catalogue.specs.Catalogue.{mostIcons, catalogueBytes}
 use Rattle.catalogue.specs.Call.{leftBy}
 use Rattle.salvage_spec.specs.declared.SalvageAnswer.{SalvageAnswer}
-use Rattle.salvage_spec.specs.Salvage.{Entry, row, icons, catalogue, entries}
+use Rattle.salvage_spec.specs.Salvage.{row, icons, catalogue, entries}
 
--- number n at p, with l bytes and r rows written
+-- number n at p, with so many bytes and rows written
 abbrev pub salvageIs : ℕ → ℕ → ℕ → ℕ → SalvageAnswer
-salvageIs n p l r = record { number = n; place = p; length = l; rows = r }
+salvageIs n p size rows = record { number = n; place = p; length = size; rows = rows }
 
 -- the catalogue's bytes, and the report's words, two to a row
 abbrev pub salvageBytes : List ℕ → List ℕ

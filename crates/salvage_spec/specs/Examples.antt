@@ -101,8 +101,13 @@ examples =
     gives (patched 108 (46 ∷ 46 ∷ []) farm) (second ++ count 3 ++ named hen 0 ++ named oat 0 ++ named cow 1 ++ image 0 4) (16 ∷ 100 ∷ []) 1 ∷
     gives (patched 70 (0 ∷ 16 ∷ []) (patched 108 (46 ∷ 46 ∷ []) farm))
     (second ++ count 3 ++ named hen 0 ++ named oat 0 ++ named cow 1 ++ image 0 4) (16 ∷ 100 ∷ 11 ∷ 68 ∷ 11 ∷ 68 ∷ []) 3 ∷
-    -- both paths went, and all images with them
+    -- of three paths the second is empty: the third has its index then
+    gives (patched 88 (0 ∷ 2 ∷ []) (patched 8 (0 ∷ 0 ∷ 0 ∷ 126 ∷ []) farm) ++ (0 ∷ 0 ∷ 0 ∷ 3 ∷ 0 ∷ 0 ∷ 0 ∷ 108 ∷ 0 ∷ 0 ∷ 0 ∷ 0 ∷ 0 ∷ 0 ∷ 0 ∷ 111 ∷ []))
+    (both ++ count 3 ++ henWhole ++ oatWhole ++ cowWhole) (6 ∷ 134 ∷ []) 1 ∷
+    -- both paths went, and all images with them; 0xFFFF has a row even then
     gives (patched 108 (47 ∷ 54 ∷ 0 ∷ 46 ∷ 46 ∷ []) farm) (count 0 ++ count 3 ++ named hen 0 ++ named oat 0 ++ named cow 0) (6 ∷ 100 ∷ 16 ∷ 104 ∷ []) 2 ∷
+    gives (patched 88 (255 ∷ 255 ∷ []) (patched 108 (47 ∷ 54 ∷ 0 ∷ 46 ∷ 46 ∷ []) farm))
+    (count 0 ++ count 3 ++ named hen 0 ++ named oat 0 ++ named cow 0) (6 ∷ 100 ∷ 16 ∷ 104 ∷ 11 ∷ 88 ∷ []) 3 ∷
     -- refused: eleven bytes; a byte and a word too few
     refuses (take 11 farm) 64 6 1 0 ∷
     refuses farm 61 0 19 0 ∷

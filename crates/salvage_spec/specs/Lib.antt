@@ -3,8 +3,8 @@
 -- report of what went; what the call answers and leaves; what is promised; what is written, piece
 -- by piece.
 --
--- Beside the letters of `format` and `catalogue`: n and m are steps of a walk, e is an entry of the
--- report.
+-- The letters are those of `format` and `catalogue`, but n and m are steps of a walk; e is an entry
+-- of the report.
 pub mod Lists
 pub mod Meetings
 pub mod Salvage

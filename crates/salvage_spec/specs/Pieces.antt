@@ -1,8 +1,9 @@
 -- What is written, piece by piece: of the catalogue and of the report, for each directory, image,
 -- meeting and chain.
 use Prim.Native.Nat.{ℕ}
-use mathlib.Core.List.{List, [], _∷_, _++_, flatMap}
-use Rattle.format.specs.Bytes.{joined}
+use mathlib.Core.List.{List, [], _++_, flatMap}
+use lib.ListN.{length}
+use Rattle.format.specs.Bytes.{bytes, joined}
 use Rattle.format.specs.Fault.{ifKept}
 use Rattle.format.specs.Header.{pathOf, pathFault}
 use Rattle.format.specs.Record.{images, imageFault}
@@ -24,9 +25,12 @@ pathPiece s i = ifKept (pathFault s i) (pathBytes (pathOf s i)) []
 abbrev pub pathRow : List ℕ → ℕ → List ℕ
 pathRow s i = rowIf (pathFault s i)
 
--- of image i of the record r, and the rows of all its images
+-- of image i of the record r; all its images behind the count of those that stay, and their rows
 abbrev pub imagePiece : List ℕ → ℕ → ℕ → List ℕ
 imagePiece s r i = flatMap imageBytes (keptImage s (imagePlace s r i))
+
+abbrev pub imagesPiece : List ℕ → ℕ → List ℕ
+imagesPiece s r = bytes 2 (length (icon s r .images)) ++ joined (imagePiece s r) (images s r)
 
 abbrev pub imageRow : List ℕ → ℕ → ℕ → List ℕ
 imageRow s r i = rowIf (imageFault s (imagePlace s r i))

@@ -4,11 +4,11 @@ use mathlib.Core.Path.{_≡_}
 use mathlib.Core.Logic.{_↔_, _⊎_}
 use mathlib.Core.List.{List, [], _∷_, _++_, map}
 use mathlib.Core.Bool.{Bool, true, not}
-use lib.ListN.{length, drop}
+use lib.ListN.{length, drop, getD}
 use lib.Dec.{eqb}
 use Rattle.format.specs.Layout.{endValue}
 use Rattle.format.specs.Fault.{fault, noFault}
-use Rattle.format.specs.Header.{headerFault, directories, buckets, bucketField, pathOf}
+use Rattle.format.specs.Header.{headerFault, directories, buckets, bucketField, pathOf, pathFault}
 use Rattle.format.specs.Record.{nameOf, imagesAt, nameFault, validImageList}
 use Rattle.format.specs.Chain.{allRecords}
 use Rattle.format.specs.Words.{link, linkField, Inside, OnChain, Accepted}
@@ -24,7 +24,7 @@ use Rattle.catalogue.specs.Call.{write, writeLeaves}
 use Rattle.catalogue.specs.Promise.{Taken}
 use Rattle.salvage_spec.specs.Lists.{those, AnyTwo}
 use Rattle.salvage_spec.specs.Meetings.{Meeting, met, cut, fate, meetings}
-use Rattle.salvage_spec.specs.Salvage.{icon, icons, catalogue, Entry, ofPath, ofMeeting, ofImage, ofCut, row, pathEntries, entries}
+use Rattle.salvage_spec.specs.Salvage.{newIndex, icon, icons, catalogue, Entry, ofPath, ofMeeting, ofImage, ofCut, row, pathEntries, entries}
 use Rattle.salvage_spec.specs.Call.{salvageBytes, salvage}
 
 -- the record before step n, if there is one, has a name without a fault
@@ -84,7 +84,7 @@ abbrev pub rowsAfterPaths : List ℕ → List Fault
 rowsAfterPaths s = map (row s) (drop (length (pathEntries s)) (entries s))
 
 abbrev pub rowsOfMeetings : List ℕ → List Fault
-rowsOfMeetings s = those (λ (f : Fault). meetingNumber (f .number)) (rowsAfterPaths s)
+rowsOfMeetings s = those (λ (v : Fault). meetingNumber (v .number)) (rowsAfterPaths s)
 
 -- Each meeting is kept or has exactly one row, never both. A meeting stands once in the list of
 -- all. The icons are those of the kept meetings, one for each and in their order; the other
@@ -143,6 +143,8 @@ pub record Salvages (s : List ℕ) : Type 0 where
   -- the meetings of an accepted cache are all its records in the check's order
   pub meets-all : Accepted Short s → map (metRecord s) (meetings s) ≡ allRecords Short s
   pub keeps-all : Accepted Short s → NoEqualNames s → KeepsAll s
+  -- the indexes of directories close up: the path of one that is kept stands at its new index
+  pub closes-up : (i : ℕ) → i < directories s → pathFault s i .number ≡ 0 → getD (catalogue s .paths) (newIndex s i) [] ≡ pathOf s i
   -- the catalogue is good, and so a cache can be written from it
   pub good : headerFault s .number ≡ 0 → AreBytes s → Good (catalogue s)
   pub repairs : (room words : ℕ) → AreBytes s → salvage s room words .number ≡ 0 → Repairs s

@@ -1,5 +1,5 @@
--- `salvage_reach::find_way` meets its contract. The loop's invariant is `Ahead`: so many records are
--- left behind, and what is known of the marked one. Each way out is a law of it (`ahead-ended`,
+-- `salvage_reach::find_way` meets its contract. The loop's invariant is `Ahead`: so many records
+-- are left behind, and what is known of the marked one. Each way out is a law of it (`ahead-ended`,
 -- `ahead-outside`, `ahead-misnamed`, `ahead-round`), and one more turn is `ahead-again`. The
 -- measure counts down from 5 L.
 use Prim.Native.Nat.{_+_, _-_, _*_, _≤_}

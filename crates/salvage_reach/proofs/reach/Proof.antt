@@ -1,5 +1,5 @@
--- `salvage_reach::reach` meets its contract: the chain stops by itself, or the first step of its round
--- tells where it is cut.
+-- `salvage_reach::reach` meets its contract: the chain stops by itself, or the first step of its
+-- round tells where it is cut.
 use mathlib.Core.Path.{_≡_, ap, _∙_}
 use native.Mathlib.Omega.{arith}
 use borrow.Author.Needs.{needs}

@@ -13,7 +13,7 @@ use Rattle.format.specs.Laws.Below.{below-suc}
 use Rattle.format.specs.Laws.Along.{reads-link}
 use Rattle.format.specs.Laws.Links.{Repeat, earlier}
 use Rattle.rounds.specs.Stepping.{ahead, Runs, LeadsIn}
-use Rattle.salvage_reach.specs.Laws.Extents.{extent-ended, extent-outside, extent-misnamed, extent-looped}
+use Rattle.salvage_reach.specs.Laws.Reach.{reach-ended, reach-outside, reach-misnamed, reach-looped}
 use Rattle.salvage_reach.specs.declared.Mark.{Mark}
 use Rattle.salvage_reach.specs.declared.Turn.the-variants.{Ended, Outside, Misnamed, Passes}
 use Rattle.salvage_reach.specs.Ways.{Turned, PassesAt, PassesBelow, RoundOf, Reaches, reachedAt, moved, Ahead}
@@ -25,13 +25,13 @@ module _ {s : List ℕ} {k f n : ℕ} {m : Mark} (a : Ahead s k f n m) where
   names = ap (be 4 s) (a .field) ∙ reads-link s k n
 
   pub ahead-ended : Turned s k f Ended → Reaches s k (reachedAt n noFault)
-  ahead-ended e = extent-ended s k n (a .passes) (sym names ∙ e)
+  ahead-ended e = reach-ended s k n (a .passes) (sym names ∙ e)
 
   pub ahead-outside : Turned s k f Outside → Reaches s k (reachedAt n (fault 7 f))
-  ahead-outside (real, out) = rw (a .field) (extent-outside s k n (a .passes) (rw names at real) (rw names at out))
+  ahead-outside (real, out) = rw (a .field) (reach-outside s k n (a .passes) (rw names at real) (rw names at out))
 
   pub ahead-misnamed : Turned s k f Misnamed → Reaches s k (reachedAt (n + 1) noFault)
-  ahead-misnamed ((real, inn), bad) = rw add-one (extent-misnamed s k n (a .passes) (rw names at real) (rw names at inn) (rw names at bad))
+  ahead-misnamed ((real, inn), bad) = rw add-one (reach-misnamed s k n (a .passes) (rw names at real) (rw names at inn) (rw names at bad))
 
   module _ {r : ℕ} (told : Turned s k f (Passes r)) where
     pub ahead-round : r ≡ m .behind → RoundOf s k (m .stays) (n - m .stays)
@@ -71,7 +71,7 @@ module _ {s : List ℕ} {k m c : ℕ} (r : RoundOf s k m c) where
   -- the first step that has it tells how far the walk goes
   pub round-reached : (n : ℕ) → LeadsIn s (link s k 0) (record { start = m; steps = c }) n
       → Reaches s k (reachedAt (n + c) (fault 12 (bucketField s k)))
-  round-reached n first = extent-looped s k c n (λ i l. round-passes i) (record {
+  round-reached n first = reach-looped s k c n (λ i l. round-passes i) (record {
     elsewhere = m;
     some = r .some;
     least = r .least;

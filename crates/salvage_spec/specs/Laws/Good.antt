@@ -1,13 +1,14 @@
 -- The catalogue is good: the writer answers neither 18 nor 20 to it.
 use Prim.Native.Nat.{ℕ, zero, suc, _+_, _^_, _≤_, _<_}
 use mathlib.Core.Path.{_≡_, refl, sym, _∙_}
-use mathlib.Core.List.{List, [], _∷_}
+use mathlib.Core.List.{List, [], _∷_, _++_}
 use mathlib.Core.Bool.{Bool, true, false, not, and-eq-true-iff}
 use native.Mathlib.Decide.{ℕ-discrete}
-use native.Mathlib.Nat.{pow-suc}
+use native.Mathlib.Nat.{add-zero, pow-suc}
 use native.Mathlib.Omega.{arith}
 use borrow.Author.Tests.{ne-eqb, lt-ltb, eqb-true, eqb-false, leb-true, ltb-true}
-use lib.ListN.{length, length-append, length-map, List·getD-map}
+use lib.ListN.{length, getD, length-append, length-map, List·getD-append, List·getD-map}
+use lib.Seq.{getD-append-add}
 use lib.Dec.{eqb, leb}
 use Rattle.format.specs.Choice.{if_then_else_}
 use Rattle.format.specs.Number.{be}
@@ -40,6 +41,9 @@ one-or-none : {A : Type 0} (x : ℕ) (a : A) → length {A = A} (elim x as (λ y
 one-or-none zero a = omega arith
 one-or-none (suc x) a = omega arith
 
+last-at : {A : Type 0} (xs : List (List A)) (x : List A) → getD (xs ++ x ∷ []) (length xs) [] ≡ x
+last-at xs x = rw (add-zero (length xs)) at (getD-append-add xs (x ∷ []) 0 [])
+
 module _ (s : List ℕ) where
   pub paths-few : (n : ℕ) → length (pathsBelow s n) ≤ n
   unfolding pathsBelow
@@ -62,6 +66,19 @@ module _ (s : List ℕ) where
     | yes q ↦ rw (← q, e) (omega (arith, length-append (pathsBelow s i) (pathOf s i ∷ [])))
     | no a ↦ omega (arith, length-append (pathsBelow s n) (ifKept (pathFault s n) (pathOf s n ∷ []) []), index-below n i (omega arith) e)
   ]
+
+  -- and its path stands there
+  path-at : (n i : ℕ) → i < n → pathFault s i .number ≡ 0 → getD (pathsBelow s n) (newIndex s i) [] ≡ pathOf s i
+  unfolding pathsBelow joined
+  path-at zero i l e = absurd (omega arith)
+  path-at (suc n) i l e = elim (ℕ-discrete i n) [
+    | yes q ↦ rw (← q, e) (last-at (pathsBelow s i) (pathOf s i))
+    | no a ↦ List·getD-append (pathsBelow s n) _ [] (newIndex s i) (index-below n i (omega arith) e) ∙ path-at n i (omega arith) e
+  ]
+
+  pub closes-up : (i : ℕ) → i < directories s → pathFault s i .number ≡ 0 → getD (catalogue s .paths) (newIndex s i) [] ≡ pathOf s i
+  unfolding catalogue
+  closes-up = path-at (directories s)
 
   image-few : (p : ℕ) → length (keptImage s p) ≤ 1
   unfolding keptImage

@@ -23,22 +23,23 @@ pub record Kept (s : List ℕ) (k n : ℕ) : Type 0 where
   pub listed : validImageList s (imagesAt s (link s k n)) ≡ true
   pub new : among (nameOf s (link s k n)) (keptNames s k n) ≡ false
 
+-- which rule sends the record r away: one of its name, that of its image list, or that of equal
+-- names
+module _ (s : List ℕ) (k : ℕ) (ts : List (List ℕ)) (r : ℕ) where
+  pub fate-misnamed : (nameFault s k r .number ≡ 0 → ⊥) → fateAmong s k ts r ≡ nameFault s k r
+  unfolding fateAmong
+  fate-misnamed bad = orElse-first _ _ bad
+
+  module _ (named : nameFault s k r .number ≡ 0) where
+    pub fate-unlisted : validImageList s (imagesAt s r) ≡ false → fateAmong s k ts r ≡ fault 10 (imagesField r)
+    unfolding fateAmong
+    fate-unlisted bad = orElse-next _ _ named ∙ broken-speaks (validImageList s (imagesAt s r)) _ _ _ bad
+
+    pub fate-named : validImageList s (imagesAt s r) ≡ true → fateAmong s k ts r ≡ unless (not (among (nameOf s r) ts)) 20 (nameField r)
+    unfolding fateAmong
+    fate-named listed = orElse-next _ _ named ∙ kept-passes (validImageList s (imagesAt s r)) _ _ _ listed
+
 module _ (s : List ℕ) (k : ℕ) where
-  -- which rule sends a record away: one of its name, that of its image list, or that of equal names
-  pub fate-misnamed : (n : ℕ) → (nameFault s k (link s k n) .number ≡ 0 → ⊥) → fate s k n ≡ nameFault s k (link s k n)
-  unfolding fate fateAmong
-  fate-misnamed n bad = orElse-first _ _ bad
-
-  pub fate-unlisted : (n : ℕ) → nameFault s k (link s k n) .number ≡ 0 → validImageList s (imagesAt s (link s k n)) ≡ false
-      → fate s k n ≡ fault 10 (imagesField (link s k n))
-  unfolding fate fateAmong
-  fate-unlisted n named bad = orElse-next _ _ named ∙ broken-speaks (validImageList s (imagesAt s (link s k n))) _ _ _ bad
-
-  pub fate-named : (n : ℕ) → nameFault s k (link s k n) .number ≡ 0 → validImageList s (imagesAt s (link s k n)) ≡ true
-      → fate s k n ≡ unless (not (among (nameOf s (link s k n)) (keptNames s k n))) 20 (nameField (link s k n))
-  unfolding fate fateAmong
-  fate-named n named listed = orElse-next _ _ named ∙ kept-passes (validImageList s (imagesAt s (link s k n))) _ _ _ listed
-
   pub kept-right : (n : ℕ) → fate s k n .number ≡ 0 → Kept s k n
   unfolding fate fateAmong
   kept-right n e =
@@ -51,7 +52,8 @@ module _ (s : List ℕ) (k : ℕ) where
       }
 
   pub right-kept : (n : ℕ) → Kept s k n → fate s k n .number ≡ 0
-  right-kept n h = rw (fate-named n (h .named) (h .listed), h .new)
+  unfolding fate
+  right-kept n h = rw (fate-named s k (keptNames s k n) (link s k n) (h .named) (h .listed), h .new)
 
   -- the names kept, one step more
   pub names-more : (n : ℕ) → fate s k n .number ≡ 0 → keptNames s k (suc n) ≡ nameOf s (link s k n) ∷ keptNames s k n

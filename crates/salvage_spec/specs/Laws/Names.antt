@@ -13,7 +13,7 @@ use Rattle.format.specs.Words.{link}
 use Rattle.format.specs.Laws.Records.{name-valid}
 use Rattle.catalogue.specs.Catalogue.{Icon, Each}
 use Rattle.salvage_spec.specs.Lists.{AnyTwo}
-use Rattle.salvage_spec.specs.Meetings.{met, fate}
+use Rattle.salvage_spec.specs.Meetings.{met, keptNames, fate}
 use Rattle.salvage_spec.specs.Salvage.{icon, chainIcons, icons}
 use Rattle.salvage_spec.specs.Promise.{KeptBefore}
 use Rattle.salvage_spec.specs.Laws.Lists.{each-joined, any-two-joined}
@@ -38,7 +38,8 @@ module _ (s : List ℕ) where
 
     pub equal-goes : n < met s k → validImageList s (imagesAt s (link s k n)) ≡ true
         → (fate s k n .number ≡ 20) ↔ KeptBefore s k n (nameOf s (link s k n))
-    equal-goes l listed = rw (fate-named s k n named listed) (
+    unfolding fate
+    equal-goes l listed = rw (fate-named s k (keptNames s k n) (link s k n) named listed) (
       λ e.
           let (m, g, kept, same) = among-kept s k (nameOf s (link s k n)) n (twenty _ _ .0 e) in
           record { bucket = k; step = m; before = inr (refl, g); met = omega arith; kept = kept; same = same },

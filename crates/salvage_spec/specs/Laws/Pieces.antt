@@ -1,7 +1,7 @@
 -- The bytes of the catalogue and the words of the report are made of the pieces.
 use Prim.Native.Nat.{ℕ, zero, suc, _*_}
-use mathlib.Core.Path.{_≡_, refl, sym, ap, _∙_}
-use mathlib.Core.List.{List, [], _∷_, _++_, append-nil, append-assoc, flatMap}
+use mathlib.Core.Path.{_≡_, refl, ap, _∙_}
+use mathlib.Core.List.{List, [], _∷_, _++_, append-nil, flatMap}
 use native.Mathlib.Omega.{arith}
 use lib.ListN.{length}
 use Rattle.format.specs.Bytes.{bytes, joined}
@@ -10,7 +10,7 @@ use Rattle.format.specs.Header.{directories, buckets, pathOf, pathFault}
 use Rattle.format.specs.Record.{images, imageFault}
 use Rattle.format.specs.Words.{link}
 use Rattle.format.specs.declared.Fault.{Fault}
-use Rattle.format.specs.Laws.Bytes.{joined-same}
+use Rattle.format.specs.Laws.Bytes.{joined-same, flat-append}
 use Rattle.catalogue.specs.Catalogue.{pathBytes, imageBytes, iconBytes}
 use Rattle.salvage_spec.specs.Meetings.{meeting, met, cut, fate}
 use Rattle.salvage_spec.specs.Salvage.{pathsBelow, keptImage, imagePlace, icon, chainIcons, icons, catalogue, Entry, ofPath, ofMeeting, ofImage, ofCut, row, imageEntries, meetingEntries, chainEntries, pathEntries, entries}
@@ -19,14 +19,9 @@ use Rattle.salvage_spec.specs.Pieces.{pathPiece, pathRow, imagePiece, im
 use Rattle.salvage_spec.specs.Laws.Lists.{through}
 
 module _ {A B : Type 0} (f : A → List B) where
-  flat-append : (x y : List A) → flatMap f (x ++ y) ≡ flatMap f x ++ flatMap f y
-  unfolding flatMap
-  flat-append [] y = refl
-  flat-append (a ∷ x) y = rw (flat-append x y) (sym (append-assoc (f a) (flatMap f x) (flatMap f y)))
-
   flat-joined : (g : ℕ → List A) (n : ℕ) → flatMap f (joined g n) ≡ joined (λ i. flatMap f (g i)) n
   unfolding flatMap
-  flat-joined = through (flatMap f) refl flat-append
+  flat-joined = through (flatMap f) refl (flat-append f)
 
   flat-one : (a : A) → flatMap f (a ∷ []) ≡ f a
   unfolding flatMap

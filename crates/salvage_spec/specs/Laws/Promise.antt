@@ -9,7 +9,7 @@ use Rattle.salvage_spec.specs.Laws.Names.{one-chain, equal-goes}
 use Rattle.salvage_spec.specs.Laws.Accounts.{accounts}
 use Rattle.salvage_spec.specs.Laws.Sound.{all-met}
 use Rattle.salvage_spec.specs.Laws.Whole.{keeps-all}
-use Rattle.salvage_spec.specs.Laws.Good.{good}
+use Rattle.salvage_spec.specs.Laws.Good.{closes-up, good}
 use Rattle.salvage_spec.specs.Laws.Repairs.{repairs}
 
 pub salvages : (s : List ℕ) → Salvages s
@@ -21,6 +21,7 @@ salvages s = record {
   accounts = accounts s;
   meets-all = all-met s;
   keeps-all = keeps-all s;
+  closes-up = closes-up s;
   good = λ e small. good s small e;
   repairs = repairs s;
 }

@@ -28,16 +28,16 @@ module _ (s : List ℕ) (k n : ℕ) (below : PassesBelow s k n) where
   met-before : (PassesAt s k n → ⊥) → (j : ℕ) → j < n → MeetsAt s k j
   met-before stop = passes-met s k n below (λ j l. stop-fresh s k n below stop j (omega arith))
 
-  pub extent-ended : link s k n ≡ endValue → Reaches s k (reachedAt n noFault)
-  extent-ended e = reaches (ends-met s k n (met-before (λ p. p .real e)) (ended left e))
+  pub reach-ended : link s k n ≡ endValue → Reaches s k (reachedAt n noFault)
+  reach-ended e = reaches (ends-met s k n (met-before (λ p. p .real e)) (ended left e))
 
-  pub extent-outside : (link s k n ≡ endValue → ⊥) → (Inside s (link s k n) → ⊥) → Reaches s k (reachedAt n (fault 7 (linkField s k n)))
-  extent-outside real out = reaches (ends-met s k n (met-before (λ p. out (p .inside))) (outside left real out))
+  pub reach-outside : (link s k n ≡ endValue → ⊥) → (Inside s (link s k n) → ⊥) → Reaches s k (reachedAt n (fault 7 (linkField s k n)))
+  reach-outside real out = reaches (ends-met s k n (met-before (λ p. out (p .inside))) (outside left real out))
 
   -- a record whose name has a fault is met, and ends the chain
-  pub extent-misnamed : (link s k n ≡ endValue → ⊥) → Inside s (link s k n) → (nameFault s k (link s k n) .number ≡ 0 → ⊥)
+  pub reach-misnamed : (link s k n ≡ endValue → ⊥) → Inside s (link s k n) → (nameFault s k (link s k n) .number ≡ 0 → ⊥)
       → Reaches s k (reachedAt (suc n) noFault)
-  extent-misnamed real inn bad =
+  reach-misnamed real inn bad =
       let stop : PassesAt s k n → ⊥ = λ p. bad (p .named) in
       let here : MeetsAt s k n = record { passed = left; real = real; inside = inn; fresh = stop-fresh s k n below stop n (omega arith) } in
       reaches (ends-met s k (suc n) (below-suc (met-before stop) here) (misnamed n refl bad))
@@ -51,8 +51,8 @@ pub record FirstRound (s : List ℕ) (k c m : ℕ) : Type 0 where
   pub first : (i : ℕ) → i < m → link s k i ≡ link s k (i + c) → ⊥
   pub before : m ≤ elsewhere
 
-pub extent-looped : (s : List ℕ) (k c m : ℕ) → PassesBelow s k (m + c) → FirstRound s k c m
+pub reach-looped : (s : List ℕ) (k c m : ℕ) → PassesBelow s k (m + c) → FirstRound s k c m
     → Reaches s k (reachedAt (m + c) (fault 12 (bucketField s k)))
-extent-looped s k c m below r =
+reach-looped s k c m below r =
     let all = passes-met s k (m + c) below (round-fresh s k (r .elsewhere) c m (r .some) (r .least) (r .here) (r .first) (r .before)) in
     reaches (ends-met s k (m + c) all (looped (λ i e. below i (omega arith) .named) m (omega (arith, r .some)) (r .here)))
