@@ -1,4 +1,4 @@
--- Parts put one behind the other.
+-- Parts put one behind the other, or before one that stands already.
 use Prim.Native.Nat.{ℕ, _+_, _≤_, _<_}
 use mathlib.Core.Path.{_≡_, refl, sym, ap, _∙_}
 use mathlib.Core.List.{List, [], _++_}
@@ -6,7 +6,7 @@ use native.Mathlib.Numerals.{add-one}
 use native.Mathlib.Omega.{arith}
 use lib.ListN.{length, length-append}
 use Rattle.format.specs.Bytes.{joined, put}
-use Rattle.format.specs.Laws.Put.{put-length, put-nothing, put-then}
+use Rattle.format.specs.Laws.Put.{put-length, put-nothing, put-then, put-before}
 use Rattle.filling.specs.Puts.{Puts}
 
 module _ {lent out : List ℕ} {at : ℕ} {xs : List ℕ} {n behind : ℕ} (size : length xs ≡ n) (next : behind ≡ at + n) where
@@ -30,6 +30,19 @@ puts-more {lent} {at = at} {q = q} {xs = xs} {ys} a b =
       same = b .same ∙ a .same;
       filled = λ l.
           put-then lent at xs ys {q = q} (sym (a .next)) (omega (arith, a .next)) (a .filled (omega arith)) (b .filled (omega (arith, a .next, a .same)));
+      next = omega (arith, a .next, b .next);
+    }
+
+-- a part that is put before one that stands already
+pub puts-before : {lent out new : List ℕ} {at q r : ℕ} {xs ys : List ℕ} → Puts lent out q ys r → Puts out new at xs q → Puts lent new at (xs ++ ys) r
+puts-before {lent} {at = at} {q = q} {xs = xs} {ys} a b =
+    let whole = length-append xs ys in
+    record {
+      same = b .same ∙ a .same;
+      filled = λ l.
+          b .filled (omega (arith, a .same))
+          ∙ ap (λ s. put s at xs) (a .filled (omega (arith, b .next)))
+          ∙ put-before lent at xs ys {q = q} (sym (b .next)) (omega (arith, b .next));
       next = omega (arith, a .next, b .next);
     }
 

@@ -1,5 +1,5 @@
-// Puts parts one behind the other into lent buffers, each as far as there is room for it, and says
-// in any case where the next one goes: with no room at all this only measures.
+// Puts parts one behind the other into lent buffers, each if there is room for it, and says in any
+// case where the next one goes: with no room at all this only measures.
 ghost use mathlib.Core.List.{[], _∷_};
 ghost use Prim.Native.Nat.{_+_, _^_, _≤_, _<_};
 ghost use lib.ListN.{length, take, drop};

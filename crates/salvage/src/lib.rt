@@ -13,14 +13,6 @@ use salvage_walk::Sums;
 use salvage_walk::chains;
 use tables::Tables;
 
-// How many paths and icons are kept, and how many bytes and words there are for them.
-pub struct Sizes {
-    pub paths: u16,
-    pub icons: usize,
-    pub bytes: usize,
-    pub words: usize,
-}
-
 // The answer to a call that is refused.
 fn refusal(number: u32, place: usize) -> SalvageAnswer
     ensures { λ r. ⌜ r ≡ calls.salvageIs number place 0 0 ⌝ }
@@ -33,46 +25,43 @@ fn refusal(number: u32, place: usize) -> SalvageAnswer
     }
 }
 
-// Puts the catalogue and the report as far as there is room, with the counts that are given. What
-// `closed` and `index` hold before does not matter.
+// Puts the catalogue and the report, each part if there is room for it, and says how large they
+// are; the counts of paths and icons are put last. What `closed` and `index` hold before does not
+// matter.
 fn pass(
     cache: &[u8],
     t: Tables,
-    paths: u16,
-    icons: u16,
     closed: &mut [u16],
     index: &mut [u32],
     catalogue: &mut [u8],
     report: &mut [u32],
-) -> Sizes
+) -> Sums
     requires { ⌜ TablesOf (now cache) t × (65536 ≤ length (now closed)) × (65536 ≤ length (now index)) ⌝ }
-    ensures { λ r. ⌜ Passes (now (cache .entry)) paths icons (now (catalogue .entry)) (now (catalogue .exit)) (now (report .entry)) (now (report .exit)) r ⌝ }
+    ensures { λ r. ⌜ Passes (now (cache .entry)) (now (catalogue .entry)) (now (catalogue .exit)) (now (report .entry)) (now (report .exit)) r ⌝ }
 {
-    let paths_at = short(catalogue, 0, paths);
-    let kept = close_up(cache, t, closed, catalogue, paths_at, report);
-    let icons_at = short(catalogue, kept.bytes, icons);
+    let paths = close_up(cache, t, closed, catalogue, 2, report);
     let start = Sums {
         icons: 0,
-        bytes: icons_at,
-        words: kept.words,
+        bytes: paths.bytes + 2,
+        words: paths.words,
     };
     let sums = chains(cache, t, closed, index, catalogue, report, start);
-    Sizes {
-        paths: kept.kept,
-        icons: sums.icons,
-        bytes: sums.bytes,
-        words: sums.words,
+    if 65535 < sums.icons {
+        return sums;
     }
+    short(catalogue, paths.bytes, sums.icons as u16);
+    short(catalogue, 0, paths.kept);
+    sums
 }
 
-// How large catalogue and report are: a pass with no room.
-fn measure(cache: &[u8], t: Tables, closed: &mut [u16], index: &mut [u32]) -> Sizes
+// How large catalogue and report are: a pass with room for no part.
+fn measure(cache: &[u8], t: Tables, closed: &mut [u16], index: &mut [u32]) -> Sums
     requires { ⌜ TablesOf (now cache) t × (65536 ≤ length (now closed)) × (65536 ≤ length (now index)) ⌝ }
     ensures { λ r. ⌜ Measures (now (cache .entry)) r ⌝ }
 {
     let mut no_bytes: [u8; 1] = [0; 1];
     let mut no_words: [u32; 1] = [0; 1];
-    pass(cache, t, 0, 0, closed, index, &mut no_bytes, &mut no_words)
+    pass(cache, t, closed, index, &mut no_bytes, &mut no_words)
 }
 
 // Salvages a cache whose header breaks no rule: measures, refuses with 21 or 19, and then writes.
@@ -99,17 +88,7 @@ fn save(
     if report.len() < sizes.words {
         return refusal(19, 0);
     }
-    let icons = sizes.icons as u16;
-    pass(
-        cache,
-        t,
-        sizes.paths,
-        icons,
-        closed,
-        index,
-        catalogue,
-        report,
-    );
+    pass(cache, t, closed, index, catalogue, report);
     SalvageAnswer {
         number: 0,
         place: 0,

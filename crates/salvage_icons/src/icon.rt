@@ -9,13 +9,11 @@ ghost use Rattle.salvage_icons.specs.Kept.{Kept};
 use crate::images;
 use bigendian::u32_at;
 use filling::byte;
-use filling::short;
 use filling::text;
 use strings::name_length;
 use tables::Tables;
 
-// Puts the icon of `record`: its name behind its length, and the images that stay behind their
-// count.
+// Puts the icon of `record`: its name behind its length, then its images.
 pub fn put(
     cache: &[u8],
     t: Tables,
@@ -29,9 +27,7 @@ pub fn put(
 {
     let name = u32_at(cache, record + 4) as usize;
     let size = name_length(cache, name);
-    let count = images::count(cache, t, closed, record);
     let name_at = byte(out, at, size as u8);
-    let count_at = text(cache, name, size, out, name_at);
-    let images_at = short(out, count_at, count as u16);
+    let images_at = text(cache, name, size, out, name_at);
     images::put(cache, t, closed, record, out, images_at)
 }

@@ -1,15 +1,13 @@
 // The images of a record that is kept.
 ghost use mathlib.Core.Path.{_≡_};
-ghost use Prim.Native.Nat.{_+_, _*_, _^_, _≤_, _<_};
+ghost use Prim.Native.Nat.{_+_, _^_, _≤_, _<_};
 ghost use lib.ListN.{length};
-ghost use Rattle.format.specs.Bytes.{joined};
-ghost use Rattle.format.specs.Record.{images};
 ghost use Rattle.catalogue.specs.Catalogue.{imageBytes};
 ghost use Rattle.tables.specs.Tables.{TablesOf};
 ghost use Rattle.filling.specs.Puts.{Puts};
 ghost use Rattle.salvage_paths.specs.Closed.{Closes};
-ghost use Rattle.salvage_spec.specs.Salvage.{reindexed, icon};
-ghost use Rattle.salvage_spec.specs.Pieces.{imagePiece, imageRows};
+ghost use Rattle.salvage_spec.specs.Salvage.{reindexed};
+ghost use Rattle.salvage_spec.specs.Pieces.{imagesPiece, imageRows};
 ghost use Rattle.salvage_icons.specs.Kept.{Kept, listOf};
 use bigendian::u16_at;
 use bigendian::u32_at;
@@ -40,32 +38,6 @@ fn list(cache: &[u8], record: usize) -> ImageList
     }
 }
 
-// How many images of `record` stay.
-pub fn count(cache: &[u8], t: Tables, closed: &[u16], record: usize) -> usize
-    requires { ⌜ TablesOf (now cache) t × Closes (now cache) (now closed) × Kept (now cache) «record» ⌝ }
-    ensures { λ r. ⌜ (r ≡ length (icon (now (cache .entry)) «record» .images)) × (r ≤ 1024) ⌝ }
-{
-    let valid = valid_words(t.directories);
-    let all = list(cache, record);
-    let first = all.first;
-    let m = all.count;
-    let mut stay: usize = 0;
-    let mut i = 0;
-    while i < m {
-        let kept = keep_image(cache, t, valid, closed, first + 8 * i);
-        match kept {
-            KeptImage::Stays(_) => {
-                stay += 1;
-                i += 1;
-            }
-            KeptImage::Goes => {
-                i += 1;
-            }
-        }
-    }
-    stay
-}
-
 // Puts the image at `image` with a new index.
 fn put_image(cache: &[u8], image: usize, index: u16, out: &mut [u8], at: usize) -> usize
     requires { ⌜ (image + 8 ≤ length (now cache)) × (at < 2 ^ 61) ⌝ }
@@ -78,7 +50,8 @@ fn put_image(cache: &[u8], image: usize, index: u16, out: &mut [u8], at: usize) 
     long(out, third, data)
 }
 
-// Puts the images of `record` that stay.
+// Puts how many images of `record` stay, and behind that these images. The count is put last, since
+// they are counted on the way.
 pub fn put(
     cache: &[u8],
     t: Tables,
@@ -88,13 +61,14 @@ pub fn put(
     at: usize,
 ) -> usize
     requires { ⌜ TablesOf (now cache) t × Closes (now cache) (now closed) × Kept (now cache) «record» × (at < 2 ^ 60) ⌝ }
-    ensures { λ r. ⌜ Puts (now (out .entry)) (now (out .exit)) at (joined (imagePiece (now (cache .entry)) «record») (images (now (cache .entry)) «record»)) r ⌝ }
+    ensures { λ r. ⌜ Puts (now (out .entry)) (now (out .exit)) at (imagesPiece (now (cache .entry)) «record») r × (r ≤ at + 8194) ⌝ }
 {
     let valid = valid_words(t.directories);
     let all = list(cache, record);
     let first = all.first;
     let m = all.count;
-    let mut next = at;
+    let mut stay: u16 = 0;
+    let mut next = at + 2;
     let mut i = 0;
     while i < m {
         let image = first + 8 * i;
@@ -102,6 +76,7 @@ pub fn put(
         match kept {
             KeptImage::Stays(index) => {
                 next = put_image(cache, image, index, out, next);
+                stay += 1;
                 i += 1;
             }
             KeptImage::Goes => {
@@ -109,6 +84,7 @@ pub fn put(
             }
         }
     }
+    short(out, at, stay);
     next
 }
 

@@ -27,7 +27,7 @@ pub record Closes (s xs : List ℕ) : Type 0 where
 
 -- what is put for the directories below n: the paths that are kept, and the rows of the others;
 -- the next bytes go at b, and the next words at w
-pub record ClosingTo (s lent out : List ℕ) (at : ℕ) (words report : List ℕ) (n b w : ℕ) : Type 0 where
+pub record PathsPut (s lent out : List ℕ) (at : ℕ) (words report : List ℕ) (n b w : ℕ) : Type 0 where
   pub paths : Puts lent out at (joined (pathPiece s) n) b
   pub rows : Puts words report 0 (joined (pathRow s) n) w
   pub bytes-few : b ≤ at + 1025 * n

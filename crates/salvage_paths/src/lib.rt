@@ -9,7 +9,7 @@ ghost use Rattle.format.specs.Header.{directories};
 ghost use Rattle.tables.specs.Tables.{TablesOf};
 ghost use Rattle.records.specs.ValidWords.{validWords};
 ghost use Rattle.filling.specs.Puts.{Puts};
-ghost use Rattle.salvage_paths.specs.Closed.{ClosedTo, Closes, ClosingTo, KeepsImage};
+ghost use Rattle.salvage_paths.specs.Closed.{ClosedTo, Closes, PathsPut, KeepsImage};
 use bigendian::u16_at;
 use filling::row;
 use filling::short;
@@ -55,7 +55,7 @@ pub fn close_up(
 ) -> Closed
     requires { ⌜ TablesOf (now cache) t × (directories (now cache) ≤ length (now closed)) × (at < 2 ^ 32) ⌝ }
     ensures table { λ r. ⌜ ClosedTo (now (cache .entry)) (now (closed .exit)) (directories (now (cache .entry))) (r .kept) ⌝ }
-    ensures put { λ r. ⌜ ClosingTo (now (cache .entry)) (now (out .entry)) (now (out .exit)) at (now (report .entry)) (now (report .exit)) (directories (now (cache .entry))) (r .bytes) (r .words) ⌝ }
+    ensures put { λ r. ⌜ PathsPut (now (cache .entry)) (now (out .entry)) (now (out .exit)) at (now (report .entry)) (now (report .exit)) (directories (now (cache .entry))) (r .bytes) (r .words) ⌝ }
 {
     let n = t.directories;
     let mut kept: u16 = 0;

@@ -2,19 +2,19 @@
 -- goes, and for all chains. c and d are the lent bytes before and after, w and v the lent words.
 use Prim.Native.Nat.{ℕ, _+_, _*_, _^_, _≤_, _<_}
 use mathlib.Core.Path.{_≡_}
-use mathlib.Core.List.{List, [], _∷_}
+use mathlib.Core.List.{List, []}
 use lib.ListN.{length}
 use Rattle.format.specs.Bytes.{joined}
 use Rattle.format.specs.Fault.{ifKept}
 use Rattle.format.specs.Header.{buckets}
-use Rattle.format.specs.Words.{link, linkField}
+use Rattle.format.specs.Words.{linkField}
 use Rattle.format.specs.declared.Fault.{Fault}
-use Rattle.catalogue.specs.Catalogue.{Icon, iconBytes}
+use Rattle.catalogue.specs.Catalogue.{iconBytes}
 use Rattle.keys.specs.Key.{keyAt}
 use Rattle.keys.specs.declared.Kind.the-variants.{Ended}
 use Rattle.names.specs.Index.{Represents}
 use Rattle.filling.specs.Puts.{Puts}
-use Rattle.salvage_spec.specs.Meetings.{met, keptNames, fate}
+use Rattle.salvage_spec.specs.Meetings.{met, keptNames}
 use Rattle.salvage_spec.specs.Salvage.{icon, iconsBelow, chainIcons, icons}
 use Rattle.salvage_spec.specs.Call.{rowWords}
 use Rattle.salvage_spec.specs.Pieces.{imageRows, meetingPiece, meetingRows, chainPiece, chainRows}

@@ -10,7 +10,7 @@ use denote.Ref.{now}
 use Rattle.salvage_spec.specs.Salvage.{icons}
 use Rattle.salvage_spec.specs.Call.{salvageBytes, salvageWords}
 use Rattle.salvage.specs.Pass.{SizesOf}
-use Rattle.salvage.specs.Laws.Pass.{written}
+use Rattle.salvage.specs.Laws.Pass.{pass-written}
 use Rattle.salvage.specs.Laws.Call.{refuses, many-refused, short-refused, saves}
 use Rattle.salvage.proofs.save.Statement.{statement}
 use Rattle.salvage.proofs.save.Tie as tie
@@ -56,23 +56,20 @@ returns-3 c =
     let h = refuses _ _ _ (short-refused (now (s .args .cache)) (now (s .args .catalogue)) (now (s .args .report)) (s .pre .0 .header) (few e) (inr (omega (arith, sizes e .words, turn .if3 .taken)))) (λ z. omega arith) in
     (c .refusal3 .ensures ∙ h .answer, (h .bytes-left, h .words-left))
 
-cast-icons : tie.Need-cast-icons
-cast-icons c = let e = c .before .before .before .before .before in omega (arith, e .if1 .left)
-
 returns-4 : tie.Need-returns-4
 returns-4 c =
     let put = c .before .before .before .before .before .before .before .before .before in
-    let turn = put .before .before .before .before .before .before in
+    let turn = put .before .before .before .before .before in
     let e = turn .before .before .before .before in
     let m = at e in
     let s = start m in
-    let all = written (put .pass .ensures) (m .measure .ensures .paths) (sizes e .icons) (few e) in
+    let all = pass-written (put .pass .ensures) (few e) in
     let cache = now (s .args .cache) in
     let bytes = now (s .args .catalogue) in
     let words = now (s .args .report) in
     let room : length (salvageBytes cache) ≤ length bytes = omega (arith, sizes e .bytes, turn .before .before .if2 .left) in
     let rows : length (salvageWords cache) ≤ length words = omega (arith, sizes e .words, turn .if3 .left) in
-    let h = saves cache bytes words (s .pre .0 .header) (few e) room rows (sizes e .bytes) (sizes e .words) (all .0 .filled (omega arith)) (all .1 .filled (omega arith)) in
+    let h = saves cache bytes words (s .pre .0 .header) (few e) room rows (sizes e .bytes) (sizes e .words) (all .bytes .filled (omega arith)) (all .words .filled (omega arith)) in
     (h .answer, (h .bytes-left, h .words-left))
 
 pub save-spec : {M : Type 1} → statement M
@@ -92,7 +89,6 @@ save-spec =
     (λ c. search needs)
     (λ c. search needs)
     returns-3
-    cast-icons
     (λ c κs. search needs)
     (λ c. search needs)
     (λ c. search needs)

@@ -11,21 +11,21 @@ use Rattle.tables.specs.Laws.{valid-header, same-directories, path-inside, path
 use Rattle.tables.specs.declared.JudgedPath.{JudgedPath}
 use Rattle.salvage_spec.specs.Laws.Good.{paths-few}
 use Rattle.salvage_spec.specs.Laws.Places.{path-within}
-use Rattle.salvage_paths.specs.Closed.{ClosedTo, ClosingTo}
+use Rattle.salvage_paths.specs.Closed.{ClosedTo, PathsPut}
 use Rattle.salvage_paths.specs.Laws.Table.{closed-none, closed-kept, closed-gone}
-use Rattle.salvage_paths.specs.Laws.Paths.{closing-none, closing-kept, closing-gone}
+use Rattle.salvage_paths.specs.Laws.Paths.{paths-put-none, paths-put-kept, paths-put-gone}
 use Rattle.salvage_paths.proofs.close_up.Statement.{statement}
 use Rattle.salvage_paths.proofs.close_up.Tie as tie
 
 abbrev Inv-loop : tie.InvT-loop
 Inv-loop cache t closed₀ out₀ at report₀ n kept₀ bytes₀ words₀ i₀ closed out report kept bytes words i =
-    (i ≤ n) × (length closed ≡ length closed₀) × ClosedTo cache closed i kept × ClosingTo cache out₀ out at report₀ report i bytes words
+    (i ≤ n) × (length closed ≡ length closed₀) × ClosedTo cache closed i kept × PathsPut cache out₀ out at report₀ report i bytes words
 
 abbrev μ-loop : tie.MeasureT-loop
 μ-loop cache t closed₀ out₀ at report₀ n kept₀ bytes₀ words₀ i₀ closed out report kept bytes words i = n - i
 
 loop-holds : tie.Need-loop-holds Inv-loop μ-loop
-loop-holds c = (omega arith, refl, closed-none _ _, closing-none _ _ _ _)
+loop-holds c = (omega arith, refl, closed-none _ _, paths-put-none _ _ _ _)
 
 abbrev start : tie.At-loop Inv-loop μ-loop → tie.Start Inv-loop μ-loop
 start l = l .before .before .before .before .before
@@ -78,7 +78,7 @@ loop-again c =
       omega arith,
       simp length-set (l j .loop .inv .1),
       closed-kept (l j .loop .inv .2) (room j) kept,
-      closing-kept (l j .loop .inv .3) (read j .path .ensures) kept (put .put-path .ensures),
+      paths-put-kept (l j .loop .inv .3) (read j .path .ensures) kept (put .put-path .ensures),
     )
 
 mul-closed-2 : tie.Need-mul-closed-2 Inv-loop μ-loop
@@ -102,7 +102,7 @@ loop-again-2 c =
       omega arith,
       simp length-set (l j .loop .inv .1),
       closed-gone (l j .loop .inv .2) (room j) bad,
-      closing-gone (l j .loop .inv .3) bad (rw (ap (λ (p : JudgedPath). p .fault) (read j .path .ensures)) at (put .row .ensures)),
+      paths-put-gone (l j .loop .inv .3) bad (rw (ap (λ (p : JudgedPath). p .fault) (read j .path .ensures)) at (put .row .ensures)),
     )
 
 returns : tie.Need-returns Inv-loop μ-loop

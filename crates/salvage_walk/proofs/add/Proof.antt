@@ -1,5 +1,5 @@
--- `salvage_walk::add` meets its contract: of a record that is kept its icon and the rows of its images
--- are put, of another its own row.
+-- `salvage_walk::add` meets its contract: of a record that is kept its icon and the rows of its
+-- images are put, of another its own row.
 use native.Mathlib.Omega.{arith}
 use borrow.Author.Needs.{needs}
 use Rattle.salvage_walk.specs.Laws.Grows.{adds-kept, adds-gone}

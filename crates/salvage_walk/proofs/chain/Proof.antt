@@ -1,5 +1,5 @@
--- `salvage_walk::chain` meets its contract. The loop's invariant is `Steps`: what is put for the steps
--- made, and the names that are kept, which the index has. Each way out is a law of it
+-- `salvage_walk::chain` meets its contract. The loop's invariant is `Steps`: what is put for the
+-- steps made, and the names that are kept, which the index has. Each way out is a law of it
 -- (`walks-many`, `walks-uncut`, `walks-cut`), and one more turn is `steps-next`.
 use Prim.Native.Nat.{_+_, _-_, _^_, _≤_, _<_}
 use mathlib.Core.Path.{_≡_, refl, ap, _∙_}

@@ -1,5 +1,5 @@
--- `salvage_icons::images::put_image` meets its contract: index, flags and offset are put one behind the
--- other.
+-- `salvage_icons::images::put_image` meets its contract: index, flags and offset are put one behind
+-- the other.
 use native.Mathlib.Omega.{arith}
 use borrow.Author.Needs.{needs}
 use Rattle.format.specs.Laws.Bytes.{bytes-length}

@@ -1,5 +1,5 @@
--- `salvage_icons::images::put_rows` meets its contract. The loop's invariant is `RowsTo`: the rows of the
--- images passed are put.
+-- `salvage_icons::images::put_rows` meets its contract. The loop's invariant is `RowsTo`: the rows
+-- of the images passed are put.
 use Prim.Native.Nat.{_+_, _-_, _*_, _≤_}
 use mathlib.Core.Path.{_≡_, sym, _∙_}
 use native.Mathlib.Omega.{arith}
