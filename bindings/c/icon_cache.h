@@ -370,9 +370,10 @@ uint32_t icon_cache_catalogue(const uint8_t *cache, size_t cache_len,
  * the icons in the order in which the check meets them, and a report of what
  * went, in the order met. The report has rows of two words, number and place.
  *
- * First the paths, by index. A directory whose path breaks 6, 16 or 17 goes, as
- * icon_cache_directory answers, and the images in it go without rows. The
- * indexes of the other directories close up.
+ * First the paths, by index. A directory whose path breaks 6, 16 or 17 goes; its
+ * row is the number and the place that icon_cache_directory answers. Its images
+ * go without rows, but for those that break 11. The indexes of the other
+ * directories close up.
  *
  * Then each bucket's chain, record by record. On the way to a record
  *
@@ -408,7 +409,7 @@ uint32_t icon_cache_catalogue(const uint8_t *cache, size_t cache_len,
  *        records share lists and strings, both may be much longer than the cache
  *
  * 65,535 icons take some tenths of a second; a cache of 16 MiB that was made to
- * cost time can take some seconds.
+ * cost time can take a quarter of a minute.
  */
 uint32_t icon_cache_salvage(const uint8_t *cache, size_t cache_len,
                             uint8_t *catalogue, size_t catalogue_len,
