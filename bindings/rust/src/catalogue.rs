@@ -167,7 +167,7 @@ pub fn write(catalogue: &[u8], buckets: usize) -> Result<Vec<u8>, Refusal> {
 }
 
 /// With 65,535 directories and as many icons, all as long as they may be.
-const LARGEST_CATALOGUE: usize = 4 + 65_535 * (2 + 1_023 + 1 + 255 + 2 + 8 * 1_024);
+pub(crate) const LARGEST_CATALOGUE: usize = 4 + 65_535 * (2 + 1_023 + 1 + 255 + 2 + 8 * 1_024);
 
 /// Lists a cache as a catalogue: its directories, and its icons by rising offset of
 /// their records. A cache that was [written](write) gives back the bytes that it was

@@ -1,4 +1,4 @@
-//! Reads and writes icon theme caches (`icon-theme.cache`).
+//! Reads, writes and repairs icon theme caches (`icon-theme.cache`).
 //!
 //! The cache is a lent byte slice; nothing in it is trusted. [`check`] judges
 //! the whole cache, [`check_long`] also what is noted on its images, and the module
@@ -7,8 +7,9 @@
 //! and [`records_from`] those from a [`Position`] on. [`Flags`] names the flags of
 //! an image by the [`Numbering`] of the cache's generator. [`pick`] chooses the
 //! image of an icon for a size; what the directories are made for is told by
-//! the words that a [`Theme`] gives. [`write`] makes a cache from a [`Catalogue`], and
-//! [`catalogue_of`] lists a cache as one.
+//! the words that a [`Theme`] gives. [`write`] makes a cache from a [`Catalogue`],
+//! [`catalogue_of`] lists a cache as one, and [`salvage`] lists what is sound of a
+//! damaged one and reports what went.
 //!
 //! ```
 //! use icon_cache::{check, directory, lookup, records, FARM_CACHE};
@@ -38,6 +39,7 @@ mod pick;
 pub mod raw;
 mod records;
 mod refusal;
+mod salvage;
 mod theme;
 
 pub use catalogue::{catalogue_of, write, Catalogue, Icon, MOST_BUCKETS};
@@ -48,6 +50,7 @@ pub use pick::{pick, Picked, WORDS_PER_DIRECTORY};
 pub use raw::Position;
 pub use records::{records, records_from, Record, Records};
 pub use refusal::Refusal;
+pub use salvage::{salvage, About, Row, Rows, Salvaged};
 pub use theme::{Theme, ThemeError, ThemeFault};
 
 /// The largest length of a cache, 16 MiB. A longer one is refused.

@@ -1,6 +1,6 @@
 //! The calls of the library as they are: an answer number, a place and counts.
-//! Nothing is allocated; found images go into the words lent, and what is written
-//! goes into the bytes lent.
+//! Nothing is allocated; found images and reports go into the words lent, and what is
+//! written goes into the bytes lent.
 
 /// The answer of [`check`] and [`check_long`].
 #[derive(Clone, Copy, Debug, PartialEq, Eq)]
@@ -163,6 +163,19 @@ pub struct Written {
     pub length: usize,
 }
 
+/// The answer of [`salvage`].
+#[derive(Clone, Copy, Debug, PartialEq, Eq)]
+pub struct Salvage {
+    /// The answer number, 0 if a catalogue and a report were written.
+    pub number: u32,
+    /// The offset of the fault, or 0 where it has none.
+    pub place: usize,
+    /// How many bytes the catalogue has, 0 with a refusal.
+    pub length: usize,
+    /// How many rows the report has, of two words each, 0 with a refusal.
+    pub rows: usize,
+}
+
 mod c {
     extern "C" {
         pub fn icon_cache_check(
@@ -296,6 +309,18 @@ mod c {
             place: *mut usize,
             length: *mut usize,
         ) -> u32;
+
+        pub fn icon_cache_salvage(
+            cache: *const u8,
+            cache_len: usize,
+            catalogue: *mut u8,
+            catalogue_len: usize,
+            report: *mut u32,
+            report_len: usize,
+            place: *mut usize,
+            length: *mut usize,
+            rows: *mut usize,
+        ) -> u32;
     }
 }
 
@@ -321,6 +346,15 @@ fn lent_address(bytes: &mut [u8], no_bytes: &mut u8) -> *mut u8 {
         no_bytes
     } else {
         bytes.as_mut_ptr()
+    }
+}
+
+/// The same of words that are written to.
+fn lent_words(words: &mut [u32], no_words: &mut u32) -> *mut u32 {
+    if words.is_empty() {
+        no_words
+    } else {
+        words.as_mut_ptr()
     }
 }
 
@@ -386,11 +420,6 @@ fn check_by(call: CheckCall, cache: &[u8]) -> Check {
 #[inline]
 pub fn lookup(cache: &[u8], name: &[u8], words: &mut [u32]) -> Lookup {
     let mut no_words = 0;
-    let lent = if words.is_empty() {
-        &mut no_words
-    } else {
-        words.as_mut_ptr()
-    };
     let mut place = UNWRITTEN;
     let mut images = UNWRITTEN;
     let mut opened = UNWRITTEN;
@@ -402,7 +431,7 @@ pub fn lookup(cache: &[u8], name: &[u8], words: &mut [u32]) -> Lookup {
             cache.len(),
             address(name),
             name.len(),
-            lent,
+            lent_words(words, &mut no_words),
             words.len(),
             &mut place,
             &mut images,
@@ -680,5 +709,36 @@ pub fn catalogue_of(cache: &[u8], catalogue: &mut [u8]) -> Written {
         number,
         place,
         length,
+    }
+}
+
+/// Saves what is sound of a cache: a catalogue, at the front of the bytes lent, and a
+/// report of what went, at the front of the words lent, number and place for each row.
+/// Those behind stay as they were, and so do all with a refusal.
+pub fn salvage(cache: &[u8], catalogue: &mut [u8], report: &mut [u32]) -> Salvage {
+    let mut place = UNWRITTEN;
+    let mut length = UNWRITTEN;
+    let mut rows = UNWRITTEN;
+    let (mut no_bytes, mut no_words) = (0, 0);
+    // SAFETY: the pointers are valid for the lengths given and for this call,
+    // and only the lent bytes and words and the three numbers are written.
+    let number = unsafe {
+        c::icon_cache_salvage(
+            address(cache),
+            cache.len(),
+            lent_address(catalogue, &mut no_bytes),
+            catalogue.len(),
+            lent_words(report, &mut no_words),
+            report.len(),
+            &mut place,
+            &mut length,
+            &mut rows,
+        )
+    };
+    Salvage {
+        number,
+        place,
+        length,
+        rows,
     }
 }

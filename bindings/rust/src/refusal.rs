@@ -30,8 +30,9 @@ pub struct Refusal {
     /// [`directory`](crate::directory), [`Flags`](crate::Flags),
     /// [`notes`](crate::notes), [`write`](crate::write) and
     /// [`Catalogue`](crate::Catalogue), which open none, and from
-    /// [`Records`](crate::Records), [`pick`](crate::pick) and
-    /// [`catalogue_of`](crate::catalogue_of), which don't count them.
+    /// [`Records`](crate::Records), [`pick`](crate::pick),
+    /// [`catalogue_of`](crate::catalogue_of) and [`salvage`](crate::salvage()), which
+    /// don't count them.
     pub opened: usize,
 }
 
@@ -80,12 +81,14 @@ impl Refusal {
     /// the catalogue has less than 2 bytes.
     pub const BAD_FIELD: u32 = 18;
     /// The cache would be longer than [`LARGEST`](crate::LARGEST), or, in
-    /// [`raw`](crate::raw), too few bytes are lent.
+    /// [`raw`](crate::raw), too few bytes or words are lent.
     pub const DOES_NOT_FIT: u32 = 19;
     /// A name was used before. The place is its first byte in the catalogue, or, from
-    /// [`catalogue_of`](crate::catalogue_of), the field in its record that names it.
+    /// [`catalogue_of`](crate::catalogue_of) and in a row of [`salvage`](crate::salvage),
+    /// the field in its record that names it.
     pub const REPEATED_NAME: u32 = 20;
-    /// The cache has more than 65,535 icons, so no catalogue can list it.
+    /// The cache has more than 65,535 icons, or as many could be saved of it, so no
+    /// catalogue can list them.
     pub const TOO_MANY_ICONS: u32 = 21;
     /// A part of an image's data is not wholly inside the cache, or is a list of more than
     /// 1,024 entries. The place is the field that names it, and from
