@@ -43,12 +43,25 @@ pub enum Request {
         file: OsString,
         target: Target,
     },
+    Salvage {
+        file: OsString,
+        out: OsString,
+        product: Product,
+    },
+}
+
+/// What is made of that which was saved.
+pub enum Product {
+    Cache,
+    Catalogue,
 }
 
 /// How caches are checked.
 pub struct Manner {
     /// The image data too.
     pub long: bool,
+    /// Every fault is shown, not only the first.
+    pub all: bool,
     /// With a chart of the chains.
     pub verbose: bool,
     /// A longer file is not checked.
@@ -93,12 +106,12 @@ struct Command {
     request: fn(Given) -> Result<Request, &'static str>,
 }
 
-const COMMANDS: [Command; 7] = [
+const COMMANDS: [Command; 8] = [
     Command {
         name: "check",
         help: help::CHECK,
         options: &[MAX_SIZE],
-        switches: &[LONG, VERBOSE],
+        switches: &[ALL, LONG, VERBOSE],
         request: check,
     },
     Command {
@@ -143,6 +156,13 @@ const COMMANDS: [Command; 7] = [
         switches: &[TEXT],
         request: catalogue,
     },
+    Command {
+        name: "salvage",
+        help: help::SALVAGE,
+        options: &[OUTPUT],
+        switches: &[AS_CATALOGUE],
+        request: salvage,
+    },
 ];
 
 const FROM: &str = "--from";
@@ -155,8 +175,10 @@ const BUCKETS: &str = "--buckets";
 const TEXT: &str = "--text";
 const VERBOSE: &str = "--verbose";
 const LONG: &str = "--long";
+const ALL: &str = "--all";
 const MAX_SIZE: &str = "--max-size";
 const NOTES: &str = "--notes";
+const AS_CATALOGUE: &str = "--catalogue";
 
 /// What stands behind the name of a command.
 #[derive(Default)]
@@ -260,9 +282,14 @@ fn check(given: Given) -> Result<Request, &'static str> {
     };
     let manner = Manner {
         long: given.switches.contains(LONG),
+        all: given.switches.contains(ALL),
         verbose: given.switches.contains(VERBOSE),
         max_size,
     };
+    // The report that has every fault knows nothing of image data.
+    if manner.all && manner.long {
+        return Err("--all and --long exclude one another");
+    }
     let files = given.operands;
     let from_input = files.iter().filter(|file| is_standard_input(file));
     match (files.len(), from_input.count()) {
@@ -345,18 +372,35 @@ fn catalogue(mut given: Given) -> Result<Request, &'static str> {
     Ok(Request::Catalogue { file, target })
 }
 
-/// A dash is refused, since it stands for standard input elsewhere.
+fn salvage(mut given: Given) -> Result<Request, &'static str> {
+    let out = output(&mut given)?.ok_or("-o OUT is missing")?;
+    let product = if given.switches.contains(AS_CATALOGUE) {
+        Product::Catalogue
+    } else {
+        Product::Cache
+    };
+    let file = only_file(given.operands)?;
+    Ok(Request::Salvage { file, out, product })
+}
+
 fn target(given: &mut Given) -> Result<Target, &'static str> {
     let numbering = numbering(given)?;
     let shown = given.switches.contains(TEXT);
-    match given.values.remove(OUTPUT) {
+    match output(given)? {
         Some(_) if shown => Err("-o and --text exclude one another"),
-        Some(file) if file.is_empty() || is_standard_input(&file) => {
-            Err("-o takes the name of a file")
-        }
         Some(file) => Ok(Target::File(file)),
         None if shown => Ok(Target::Text(numbering)),
         None => Err("-o FILE or --text is missing"),
+    }
+}
+
+/// A dash is refused, since it stands for standard input elsewhere.
+fn output(given: &mut Given) -> Result<Option<OsString>, &'static str> {
+    match given.values.remove(OUTPUT) {
+        Some(file) if file.is_empty() || is_standard_input(&file) => {
+            Err("-o takes the name of a file")
+        }
+        file => Ok(file),
     }
 }
 

@@ -7,7 +7,7 @@ use crate::output::{Colour, Output, Status};
 use crate::replace::replace;
 use crate::show;
 use icon_cache::{Catalogue, Field, Image, Numbering, Refusal, LARGEST};
-use std::ffi::{OsStr, OsString};
+use std::ffi::OsStr;
 
 /// The largest prime that a cache may be written with as its bucket count.
 const LARGEST_PRIME: usize = 4_093;
@@ -34,14 +34,7 @@ pub fn write(
         };
         let buckets = buckets.unwrap_or_else(|| usual_buckets(catalogue.icons.len()));
         match icon_cache::write(bytes, buckets) {
-            Ok(cache) => {
-                let checked = icon_cache::check(&cache).expect("what is written is accepted");
-                let longest = checked.longest;
-                let sizes = sizes_of(&catalogue);
-                let buckets = show::count(buckets, "bucket", "buckets");
-                let what = format!("{sizes}, {buckets}, longest chain {longest}");
-                put(output, file, &cache, &what)
-            }
+            Ok(cache) => put_cache(output, file, &cache, buckets),
             Err(refusal) => say_refused(output, shown, &refusal),
         }
     })
@@ -61,12 +54,8 @@ pub fn list(output: &mut Output, file: &OsStr, target: &Target) -> Status {
             }
             Target::File(file) => {
                 let checked = icon_cache::check(cache).expect("what is listed is accepted");
-                put(
-                    output,
-                    file,
-                    &bytes,
-                    &sizes(checked.icons, checked.directories),
-                )
+                let what = sizes(checked.icons, checked.directories);
+                put(output, file, &bytes, &what)
             }
         }
     })
@@ -92,14 +81,24 @@ fn sizes_of(catalogue: &Catalogue) -> String {
     sizes(catalogue.icons.len(), catalogue.directories.len())
 }
 
-fn sizes(icons: usize, directories: usize) -> String {
+pub fn sizes(icons: usize, directories: usize) -> String {
     let icons = show::count(icons, "icon", "icons");
     let directories = show::count(directories, "directory", "directories");
     format!("{icons}, {directories}")
 }
 
+/// Replaces the file by a cache that was written.
+pub fn put_cache(output: &mut Output, file: &OsStr, cache: &[u8], buckets: usize) -> Status {
+    let checked = icon_cache::check(cache).expect("what is written is accepted");
+    let sizes = sizes(checked.icons, checked.directories);
+    let buckets = show::count(buckets, "bucket", "buckets");
+    let longest = checked.longest;
+    let what = format!("{sizes}, {buckets}, longest chain {longest}");
+    put(output, file, cache, &what)
+}
+
 /// Replaces the file, and says what it holds now.
-fn put(output: &mut Output, file: &OsString, bytes: &[u8], what: &str) -> Status {
+pub fn put(output: &mut Output, file: &OsStr, bytes: &[u8], what: &str) -> Status {
     let shown = show::bytes(file.as_encoded_bytes());
     match replace(file, bytes) {
         Ok(()) => {

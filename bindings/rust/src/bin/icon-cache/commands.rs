@@ -3,7 +3,7 @@
 use crate::arguments::{Manner, Shown};
 use crate::input::Source;
 use crate::output::{Colour, Output, Status};
-use crate::{chains, notes, show};
+use crate::{chains, notes, salvage, show};
 use icon_cache::raw::{self, Position};
 use icon_cache::{Checked, Found, Image, Record, Refusal, LARGEST};
 use std::ffi::{OsStr, OsString};
@@ -93,16 +93,56 @@ fn check_file(output: &mut Output, file: &OsStr, manner: &Manner) -> Status {
 }
 
 fn check_cache(output: &mut Output, shown: &str, cache: &[u8], manner: &Manner) -> Status {
+    if manner.all {
+        return check_all(output, shown, cache, manner);
+    }
     let answer = if manner.long {
         icon_cache::check_long(cache)
     } else {
         icon_cache::check(cache)
     };
-    let checked = match answer {
-        Ok(checked) => checked,
-        Err(refusal) => return say_check_refused(output, shown, &refusal),
+    match answer {
+        Ok(checked) => say_checked(output, shown, cache, &checked, manner),
+        Err(refusal) => say_check_refused(output, shown, &refusal),
+    }
+}
+
+/// Shows every fault below the line of the cache. A name that was used before breaks no
+/// rule of the check, and is shown of an accepted cache too.
+fn check_all(output: &mut Output, shown: &str, cache: &[u8], manner: &Manner) -> Status {
+    let salvaged = icon_cache::salvage(cache);
+    let status = match (icon_cache::check(cache), &salvaged) {
+        (Ok(checked), _) => say_checked(output, shown, cache, &checked, manner),
+        (Err(_), Ok(salvaged)) => {
+            let faults = show::count(salvaged.rows().len(), "fault", "faults");
+            say_refused_for(output, shown, &faults)
+        }
+        (Err(refusal), Err(_)) => say_check_refused(output, shown, &refusal),
     };
-    say_accepted(output, shown, &checked);
+    match salvaged {
+        Ok(salvaged) => salvage::say_faults(output, &salvaged),
+        // There is no report.
+        Err(refusal) if refusal.number == Refusal::TOO_MANY_ICONS => {
+            let unsaid = match status {
+                Status::Good => "the names were not looked through",
+                _ => "the other faults can't be listed",
+            };
+            output.line(&format!("  {unsaid}: {refusal}"));
+        }
+        // The check has said the same.
+        Err(_) => {}
+    }
+    status
+}
+
+fn say_checked(
+    output: &mut Output,
+    shown: &str,
+    cache: &[u8],
+    checked: &Checked,
+    manner: &Manner,
+) -> Status {
+    say_accepted(output, shown, checked);
     if manner.verbose {
         let chains = chains::by_length(cache, checked.longest);
         for line in chains::chart(&chains) {

@@ -4,8 +4,8 @@ pub const VERSION: &str = concat!("icon-cache ", env!("CARGO_PKG_VERSION"));
 
 pub const TOOL: &str = "\
 Checks icon theme caches (icon-theme.cache), looks up icons in them, lists what
-they have, picks images for a size, writes caches from catalogues, and lists
-caches as such.
+they have, picks images for a size, writes caches from catalogues, lists caches
+as such, and repairs damaged caches.
 
 Usage:
   icon-cache check FILE...                 say whether each cache is sound
@@ -15,6 +15,7 @@ Usage:
   icon-cache pick THEME NAME... --size N   pick each icon's image for a size
   icon-cache write CATALOGUE -o FILE       write a cache from a catalogue
   icon-cache catalogue FILE -o OUT         list a cache as a catalogue
+  icon-cache salvage FILE -o OUT           write what is sound of a cache
 
 A directory as FILE stands for the icon-theme.cache in it, and - for standard
 input. THEME is the folder of a theme. After -- no argument is taken for an
@@ -35,7 +36,7 @@ TERM is dumb.";
 pub const CHECK: &str = "\
 Says whether each cache is sound, in one line for each file.
 
-Usage: icon-cache check FILE... [--long] [--verbose] [--max-size N]
+Usage: icon-cache check FILE... [--all | --long] [--verbose] [--max-size N]
 
 An accepted cache is shown with the number of its icons and directories, and
 with how many records the longest of its buckets' chains has: no lookup opens
@@ -43,6 +44,11 @@ more. For a refused one the line says which rule it breaks first, at which
 offset (decimal and hex), and what that means.
 
 Options:
+  --all          below the line of a refused cache, show every fault that
+                 `icon-cache salvage` meets, each with the directory, the icon,
+                 the image or the bucket that it is on. Of an accepted cache the
+                 names that were used before are shown. Of more than 65,535
+                 icons neither can be shown, and a line says so
   --long         check the image data of each image too: that its parts lie in
                  the file, that the type of its pixel data is known, and that
                  its display names are neither empty nor too long
@@ -63,6 +69,7 @@ files of strangers a limit of time.
 
 Examples:
   icon-cache check /usr/share/icons/*/icon-theme.cache
+  icon-cache check --all pack/icon-theme.cache
   timeout 10 icon-cache check --long --max-size 256K pack/icon-theme.cache
 
 Exit status: 0 all accepted, 1 one refused, 2 one that can't be read.";
@@ -228,4 +235,38 @@ Options:
             how flags are shown, as in `icon-cache lookup --help`
 
 Exit status: 0 written or shown, 1 refused, 2 a file that can't be read or
+written.";
+
+pub const SALVAGE: &str = "\
+Writes what is sound of a damaged cache as a new one, and says what went.
+
+Usage: icon-cache salvage FILE -o OUT [--catalogue]
+
+What breaks a rule goes, and a line is shown for it: the directory, the icon or
+the image, the rule, the offset (decimal and hex), and what that means. With a
+directory go the images in it. A bucket's chain is followed as far as it leads:
+where it comes round it is cut, and behind a record with a bad name, or one that
+is not in the file, the rest of it is lost. Of icons with one name the first
+stays. An icon stays though no image of it is left.
+
+OUT is accepted by `icon-cache check`, and `icon-cache lookup` finds each icon
+that stayed. It has as many buckets as FILE, or 4096 if those are more. Image
+data is not written, as with `icon-cache write`.
+
+A directory as FILE stands for the icon-theme.cache in it, and - for standard
+input. A file whose header or tables are no cache's is refused, by rule 1 to 5,
+and so is one of which more than 65,535 icons, or a cache of more than
+16,777,216 bytes, would be left. FILE and OUT may be the same.
+
+Options:
+  -o OUT        the cache to write. It takes the place of OUT only when it is
+                stored as a whole; with a refusal OUT stays as it was
+  --catalogue   write the catalogue of what is sound instead, which
+                `icon-cache write --text` shows
+
+Examples:
+  icon-cache salvage pack/icon-theme.cache -o repaired.cache
+  icon-cache salvage --catalogue broken.cache -o saved.catalogue
+
+Exit status: 0 written, whatever went; 1 refused; 2 a file that can't be read or
 written.";

@@ -1,6 +1,6 @@
 //! The tool `icon-cache`: checks caches, looks up icons, lists directories and
-//! icons, picks images for a size, writes caches from catalogues, and lists caches
-//! as catalogues.
+//! icons, picks images for a size, writes caches from catalogues, lists caches as
+//! catalogues, and repairs damaged caches.
 
 mod arguments;
 mod catalogue;
@@ -12,6 +12,7 @@ mod notes;
 mod output;
 mod pick;
 mod replace;
+mod salvage;
 mod show;
 
 use arguments::{Misuse, Request};
@@ -47,6 +48,7 @@ fn answer(output: &mut Output, request: Request) -> Status {
             target,
         } => catalogue::write(output, &catalogue, buckets, &target),
         Request::Catalogue { file, target } => catalogue::list(output, &file, &target),
+        Request::Salvage { file, out, product } => salvage::salvage(output, &file, &out, &product),
     }
 }
 
