@@ -9,6 +9,8 @@
 #[allow(dead_code)]
 pub mod notes;
 mod pick;
+#[allow(dead_code)]
+pub mod salvage;
 
 #[allow(unused_imports)]
 pub use pick::{image, pick, Pick};
@@ -550,6 +552,30 @@ pub fn round_start(cache: &[u8], bucket: usize) -> Option<usize> {
     let tables = tables(cache).ok()?;
     match chain(cache, tables.bucket_field(bucket)).end {
         ChainEnd::Repeats { from } => Some(from),
+        _ => None,
+    }
+}
+
+/// How many images the list of a record has. Not every test asks.
+#[allow(dead_code)]
+pub fn images(cache: &[u8], record: usize) -> usize {
+    count(cache, number(cache, record + 8, 4), 8).expect("the list was judged")
+}
+
+/// The directory index of the image at a place. Not every test asks.
+#[allow(dead_code)]
+pub fn index_of_image(cache: &[u8], image: usize) -> usize {
+    number(cache, image, 2)
+}
+
+/// The record that the chain of a bucket comes back to, unless it ends. Not every test
+/// asks.
+#[allow(dead_code)]
+pub fn repeated_record(cache: &[u8], bucket: usize) -> Option<usize> {
+    let tables = tables(cache).ok()?;
+    let Chain { records, end } = chain(cache, tables.bucket_field(bucket));
+    match end {
+        ChainEnd::Repeats { from } => Some(records[from]),
         _ => None,
     }
 }
