@@ -8,8 +8,9 @@ use borrow.Author.Tests.{not-true, not-false}
 use denote.Ref.{now}
 use Rattle.format.specs.Header.{directories}
 use Rattle.format.specs.Record.{validImage}
+use Rattle.format.specs.Laws.Images.{names-directory}
 use Rattle.tables.specs.Laws.{valid-header, same-directories}
-use Rattle.salvage_paths.specs.Laws.Table.{bad-goes, stays-plain, names-directory, told-goes, told-stays}
+use Rattle.salvage_paths.specs.Laws.Table.{bad-goes, stays-plain, told-goes, told-stays}
 use Rattle.salvage_paths.proofs.keep_image.Statement.{statement}
 use Rattle.salvage_paths.proofs.keep_image.Tie as tie
 

@@ -2,18 +2,19 @@
 use Prim.Native.Nat.{ℕ, zero, suc, _+_, _≤_, _<_}
 use mathlib.Core.Path.{_≡_, refl, sym, ap, _∙_}
 use mathlib.Core.List.{List, [], _∷_, append-nil}
-use mathlib.Core.Bool.{true, false, and-eq-true-iff}
+use mathlib.Core.Bool.{true, false}
 use native.Mathlib.Decide.{ℕ-discrete}
 use native.Mathlib.Numerals.{add-one}
 use native.Mathlib.Omega.{arith}
-use borrow.Author.Tests.{ne-eqb, ltb-true}
+use borrow.Author.Tests.{ne-eqb}
 use lib.ListN.{length, getD, set, length-append}
 use lib.Seq.{getD-set-same, getD-set-other}
 use Rattle.format.specs.Number.{be}
 use Rattle.format.specs.Bytes.{joined}
 use Rattle.format.specs.Header.{directories, pathOf, pathFault}
-use Rattle.format.specs.Record.{validIndex, validImage}
+use Rattle.format.specs.Record.{validImage}
 use Rattle.format.specs.Laws.Faults.{broken-takes}
+use Rattle.format.specs.Laws.Images.{names-directory}
 use Rattle.salvage_spec.specs.Salvage.{pathsBelow, newIndex, reindexed, keptImage}
 use Rattle.salvage_spec.specs.Laws.Good.{paths-few, index-below}
 use Rattle.salvage_paths.specs.Closed.{ClosedTo, Closes}
@@ -60,9 +61,6 @@ module _ (s : List ℕ) (p : ℕ) (right : validImage s p ≡ true) where
   stays-plain e = rw (keptImage, right, e)
 
   module _ (some : directories s ≡ 0 → ⊥) where
-    pub names-directory : be 2 s p < directories s
-    names-directory = ltb-true _ _ (rw (ne-eqb _ _ some) at (and-eq-true-iff (validIndex (directories s) (be 2 s p)) _ .0 right .0))
-
     pub stays-with : pathFault s (be 2 s p) .number ≡ 0 → keptImage s p ≡ reindexed s p (newIndex s (be 2 s p)) ∷ []
     unfolding keptImage
     stays-with e = rw (keptImage, right, ne-eqb _ _ some, e)
@@ -75,14 +73,14 @@ module _ (s : List ℕ) (p : ℕ) (right : validImage s p ≡ true) where
     module _ {xs : List ℕ} (c : Closes s xs) (few : directories s ≤ 65535) where
       pub told-goes : getD xs (be 2 s p) 0 ≡ 0xFFFF → keptImage s p ≡ []
       told-goes e = goes-with (λ z.
-          omega (arith, c .closed .stays (be 2 s p) names-directory z, index-below s (directories s) (be 2 s p) names-directory z, paths-few s (directories s)))
+          omega (arith, c .closed .stays (be 2 s p) (names-directory s p right some) z, index-below s (directories s) (be 2 s p) (names-directory s p right some) z, paths-few s (directories s)))
 
       pub told-stays : (getD xs (be 2 s p) 0 ≡ 0xFFFF → ⊥) → keptImage s p ≡ reindexed s p (getD xs (be 2 s p) 0) ∷ []
       told-stays other = go (pathFault s (be 2 s p) .number) refl
         where
           go : (x : ℕ) → pathFault s (be 2 s p) .number ≡ x → keptImage s p ≡ reindexed s p (getD xs (be 2 s p) 0) ∷ []
-          go zero e = stays-with e ∙ ap (λ i. reindexed s p i ∷ []) (sym (c .closed .stays (be 2 s p) names-directory e))
-          go (suc x) e = absurd (other (c .closed .gone (be 2 s p) names-directory (λ z. omega arith)))
+          go zero e = stays-with e ∙ ap (λ i. reindexed s p i ∷ []) (sym (c .closed .stays (be 2 s p) (names-directory s p right some) e))
+          go (suc x) e = absurd (other (c .closed .gone (be 2 s p) (names-directory s p right some) (λ z. omega arith)))
 
 -- an image that breaks rule 11 is not kept
 pub bad-goes : (s : List ℕ) (p : ℕ) → validImage s p ≡ false → keptImage s p ≡ []

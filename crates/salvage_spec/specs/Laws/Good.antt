@@ -6,7 +6,7 @@ use mathlib.Core.Bool.{Bool, true, false, not, and-eq-true-iff}
 use native.Mathlib.Decide.{ℕ-discrete}
 use native.Mathlib.Nat.{add-zero, pow-suc}
 use native.Mathlib.Omega.{arith}
-use borrow.Author.Tests.{ne-eqb, lt-ltb, eqb-true, eqb-false, leb-true, ltb-true}
+use borrow.Author.Tests.{ne-eqb, lt-ltb, eqb-true, eqb-false, leb-true}
 use lib.ListN.{length, getD, length-append, length-map, List·getD-append, List·getD-map}
 use lib.Seq.{getD-append-add}
 use lib.Dec.{eqb, leb}
@@ -21,13 +21,14 @@ use Rattle.format.specs.Segments.{allowedPath}
 use Rattle.format.specs.Laws.Header.{header-valid}
 use Rattle.format.specs.Laws.Records.{name-valid}
 use Rattle.format.specs.Laws.Texts.{whole-allowed}
+use Rattle.format.specs.Laws.Images.{names-directory}
 use Rattle.catalogue.specs.Catalogue.{Image, Icon, Each, iconIs, names, NoneTwice, allowedImage, GoodImage, GoodIcon, Good}
 use Rattle.catalogue.specs.Fields.{AreBytes}
 use Rattle.catalogue.specs.Laws.Icons.{path-allowed}
 use Rattle.format.specs.Bytes.{joined}
 use Rattle.salvage_spec.specs.Meetings.{met}
 use Rattle.salvage_spec.specs.Salvage.{pathsBelow, newIndex, reindexed, keptImage, imagePlace, icon, chainIcons, icons, catalogue}
-use Rattle.salvage_spec.specs.Laws.Lists.{few-joined, each-joined, any-two-at}
+use Rattle.salvage_spec.specs.Laws.Lists.{few-joined, one-or-none, each-joined, any-two-at}
 use Rattle.salvage_spec.specs.Laws.Kept.{Kept, kept-right}
 use Rattle.salvage_spec.specs.Laws.Names.{of-kept, names-differ}
 
@@ -36,10 +37,6 @@ be-below : (s : List ℕ) → AreBytes s → (w p : ℕ) → be w s p < 256 ^ w
 unfolding be
 be-below s small zero p = omega arith
 be-below s small (suc w) p = rw (pow-suc 256 w) (omega (arith, be-below s small w p, small (p + w)))
-
-one-or-none : {A : Type 0} (x : ℕ) (a : A) → length {A = A} (elim x as (λ y. List A) [ zero ↦ a ∷ [] | suc y ↦ [] ]) ≤ 1
-one-or-none zero a = omega arith
-one-or-none (suc x) a = omega arith
 
 last-at : {A : Type 0} (xs : List (List A)) (x : List A) → getD (xs ++ x ∷ []) (length xs) [] ≡ x
 last-at xs x = rw (add-zero (length xs)) at (getD-append-add xs (x ∷ []) 0 [])
@@ -119,7 +116,7 @@ module _ (s : List ℕ) where
         closed-up : validImage s p ≡ true → (directories s ≡ 0 → ⊥) → pathFault s (be 2 s p) .number ≡ 0
             → allowedImage count (reindexed s p (newIndex s (be 2 s p))) ≡ true
         closed-up e some kept =
-            let index : be 2 s p < directories s = ltb-true _ _ (rw (ne-eqb _ _ some) at (and-eq-true-iff (validIndex (directories s) (be 2 s p)) _ .0 e .0)) in
+            let index : be 2 s p < directories s = names-directory s p e some in
             let below = index-below (directories s) (be 2 s p) index kept in
             let filled : count ≡ 0 → ⊥ = λ z. omega arith in
             rw (ne-eqb count 0 filled, lt-ltb _ _ below) (flags-right p e)

@@ -3,6 +3,7 @@ use Prim.Native.Nat.{ℕ, zero, suc, _+_, _≤_, _<_}
 use mathlib.Core.Path.{_≡_, refl, sym, ap, _∙_}
 use mathlib.Core.List.{List, [], _∷_, _++_, append-nil, append-assoc}
 use mathlib.Core.Bool.{Bool, true, false, not}
+use native.Mathlib.Decide.{decLt}
 use native.Mathlib.Omega.{arith}
 use lib.ListN.{length, getD, length-append}
 use Rattle.format.specs.Choice.{if_then_else_}
@@ -22,6 +23,20 @@ pub few-joined : {A : Type 0} (f : ℕ → List A) (n : ℕ) → ((i : ℕ) → 
 unfolding joined
 few-joined f zero one = omega arith
 few-joined f (suc n) one = omega (arith, length-append (joined f n) (f n), few-joined f n (λ i l. one i (omega arith)), one n (omega arith))
+
+-- one thing or none
+pub one-or-none : {A : Type 0} (x : ℕ) (a : A) → length {A = A} (elim x as (λ y. List A) [ zero ↦ a ∷ [] | suc y ↦ [] ]) ≤ 1
+one-or-none zero a = omega arith
+one-or-none (suc x) a = omega arith
+
+-- of more parts no fewer things are joined
+pub joined-le : {A : Type 0} (f : ℕ → List A) (m n : ℕ) → m ≤ n → length (joined f m) ≤ length (joined f n)
+unfolding joined
+joined-le f m zero l = let e : m ≡ 0 = omega arith in rw e (omega arith)
+joined-le f m (suc n) l = elim (decLt n m) [
+  | yes g ↦ let e : m ≡ suc n = omega arith in rw e (omega arith)
+  | no g ↦ omega (arith, joined-le f m n (omega arith), length-append (joined f n) (f n))
+]
 
 -- what goes through a list piece by piece goes through each step
 module _ {A B : Type 0} (h : List A → List B) (none : h [] ≡ []) (pieces : (x y : List A) → h (x ++ y) ≡ h x ++ h y) (f : ℕ → List A) where

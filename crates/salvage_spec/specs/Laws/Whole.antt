@@ -3,9 +3,9 @@
 use Prim.Native.Nat.{ℕ, zero, suc, _+_, _≤_, _<_}
 use mathlib.Core.Path.{_≡_, refl, sym, ap, _∙_}
 use mathlib.Core.List.{List, [], _∷_, _++_, map, map-append}
-use mathlib.Core.Bool.{Bool, true, false, and-eq-true-iff}
+use mathlib.Core.Bool.{Bool, true, false}
 use native.Mathlib.Omega.{arith}
-use borrow.Author.Tests.{ne-eqb, eqb-false, ltb-true}
+use borrow.Author.Tests.{eqb-false}
 use lib.ListN.{length}
 use lib.Dec.{eqb}
 use Rattle.format.specs.Choice.{if_then_else_}
@@ -13,10 +13,11 @@ use Rattle.format.specs.Number.{be}
 use Rattle.format.specs.Bytes.{joined}
 use Rattle.format.specs.Fault.{ifKept}
 use Rattle.format.specs.Header.{directories, buckets, pathOf, pathFault}
-use Rattle.format.specs.Record.{imagesAt, images, validIndex, validImage, recordFault}
+use Rattle.format.specs.Record.{imagesAt, images, validImage, recordFault}
 use Rattle.format.specs.Chain.{allRecords}
 use Rattle.format.specs.Words.{link, Holds, Accepted}
 use Rattle.format.specs.declared.Reading.the-variants.{Short}
+use Rattle.format.specs.Laws.Images.{names-directory}
 use Rattle.format.specs.Laws.Bytes.{joined-same}
 use Rattle.format.specs.Laws.Buckets.{lengths}
 use Rattle.catalogue.specs.Row.{row, rowEnd}
@@ -65,7 +66,7 @@ module _ (s : List ℕ) (acc : Accepted Short s) where
       go true q = refl
       go false q =
           let some : directories s ≡ 0 → ⊥ = eqb-false _ _ q in
-          let index : be 2 s p < directories s = ltb-true _ _ (rw (ne-eqb _ _ some) at (and-eq-true-iff (validIndex (directories s) (be 2 s p)) _ .0 e .0)) in
+          let index : be 2 s p < directories s = names-directory s p e some in
           rw (path-kept (be 2 s p) index, index-same (be 2 s p) index)
 
   icon-whole : (k r : ℕ) → recordFault Short s k r .number ≡ 0 → icon s r ≡ iconOf s r

@@ -22,10 +22,11 @@ use Rattle.salvage_icons.specs.Laws.Fate.{kept-tells}
 use Rattle.salvage_spec.specs.Meetings.{met, fateAmong, keptNames, fate}
 use Rattle.salvage_spec.specs.Salvage.{icon, iconsBelow, chainIcons}
 use Rattle.salvage_spec.specs.Pieces.{meetingPiece, meetingRows}
+use Rattle.salvage_spec.specs.Laws.Lists.{few-joined, one-or-none, joined-le}
 use Rattle.salvage_spec.specs.Laws.Meets.{met-below, met-few}
 use Rattle.salvage_walk.specs.declared.Sums.{Sums}
 use Rattle.salvage_walk.specs.Walk.{Adds, Steps}
-use Rattle.salvage_walk.specs.Laws.Grows.{grows-none, grows-next, joined-le}
+use Rattle.salvage_walk.specs.Laws.Grows.{grows-none, grows-next}
 
 pub steps-first : (s : List ℕ) (k : ℕ) (c w index : List ℕ) {f : ℕ} (a : Sums) → f ≡ bucketField s k → Steps s k c c w w index f 0 a a
 unfolding joined keptNames linkField
@@ -49,13 +50,7 @@ count-by v n = go (v .number)
 
 -- at most one a step
 icons-few : (s : List ℕ) (k n : ℕ) → length (iconsBelow s k n) ≤ n
-unfolding joined
-icons-few s k zero = omega arith
-icons-few s k (suc n) = omega (arith, one-more s k n, icons-few s k n, at-most-one (fate s k n .number))
-  where
-    at-most-one : (x : ℕ) → elim x as (λ y. ℕ) [ zero ↦ 1 | suc y ↦ 0 ] ≤ 1
-    at-most-one zero = omega arith
-    at-most-one (suc x) = omega arith
+icons-few s k n = few-joined _ n (λ i l. one-or-none (fate s k i .number) (icon s (link s k i)))
 
 module _ {s : List ℕ} {k : ℕ} {c d w v index : List ℕ} {f n : ℕ} {a b : Sums} (h : Steps s k c d w v index f n a b) where
   -- what stands in the field at hand

@@ -9,9 +9,10 @@ use Rattle.format.specs.Bytes.{joined}
 use Rattle.format.specs.Header.{buckets}
 use Rattle.salvage_spec.specs.Salvage.{chainIcons, icons}
 use Rattle.salvage_spec.specs.Pieces.{chainPiece, chainRows}
+use Rattle.salvage_spec.specs.Laws.Lists.{joined-le}
 use Rattle.salvage_walk.specs.declared.Sums.{Sums}
 use Rattle.salvage_walk.specs.Walk.{Walks, WholeTo, WalksAll}
-use Rattle.salvage_walk.specs.Laws.Grows.{grows-none, grows-next, joined-le}
+use Rattle.salvage_walk.specs.Laws.Grows.{grows-none, grows-next}
 
 -- the chains below bucket k are walked: all of them, or there are too many icons
 pub record WalksTo (s : List ℕ) (k : ℕ) (c d w v : List ℕ) (a b : Sums) : Type 0 where

@@ -1,11 +1,9 @@
 -- What is put grows part by part.
-use Prim.Native.Nat.{ℕ, zero, suc, _+_, _≤_}
+use Prim.Native.Nat.{ℕ, _+_, _≤_}
 use mathlib.Core.Path.{_≡_, refl}
 use mathlib.Core.List.{List, [], _++_}
-use native.Mathlib.Decide.{decLt}
 use native.Mathlib.Numerals.{add-one}
 use native.Mathlib.Omega.{arith}
-use lib.ListN.{length, length-append}
 use Rattle.format.specs.Bytes.{joined}
 use Rattle.format.specs.declared.Fault.{Fault}
 use Rattle.format.specs.Laws.Faults.{broken-takes}
@@ -41,15 +39,6 @@ module _ (f g : ℕ → List ℕ) (i : ℕ) where
 -- more words are allowed for
 pub grows-wider : {c d w v xs ys : List ℕ} {n m m′ : ℕ} {a b : Sums} → m ≤ m′ → Grows c d w v xs ys n m a b → Grows c d w v xs ys n m′ a b
 grows-wider l g = record { icons = g .icons; bytes = g .bytes; words = g .words; bytes-few = g .bytes-few; words-few = omega (arith, g .words-few) }
-
--- of more parts no fewer things are joined
-pub joined-le : {A : Type 0} (f : ℕ → List A) (m n : ℕ) → m ≤ n → length (joined f m) ≤ length (joined f n)
-unfolding joined
-joined-le f m zero l = let e : m ≡ 0 = omega arith in rw e (omega arith)
-joined-le f m (suc n) l = elim (decLt n m) [
-  | yes g ↦ let e : m ≡ suc n = omega arith in rw e (omega arith)
-  | no g ↦ omega (arith, joined-le f m n (omega arith), length-append (joined f n) (f n))
-]
 
 -- what is put for a record: its icon and the rows of its images, or its own row
 module _ (s : List ℕ) (r : ℕ) (x : Fault) {c w v : List ℕ} {a : Sums} where
