@@ -12,6 +12,7 @@ pub mod Names
 pub mod Numbers
 pub mod Places
 -- of the whole
+pub mod Paths
 pub mod Steps
 pub mod Accounts
 pub mod Sound

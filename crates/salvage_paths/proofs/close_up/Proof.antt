@@ -9,7 +9,7 @@ use denote.Ref.{now}
 use Rattle.format.specs.Header.{directories, pathFault}
 use Rattle.tables.specs.Laws.{valid-header, same-directories, path-inside, path-start, path-size}
 use Rattle.tables.specs.declared.JudgedPath.{JudgedPath}
-use Rattle.salvage_spec.specs.Laws.Good.{paths-few}
+use Rattle.salvage_spec.specs.Laws.Paths.{paths-few}
 use Rattle.salvage_spec.specs.Laws.Places.{path-within}
 use Rattle.salvage_paths.specs.Closed.{ClosedTo, PathsPut}
 use Rattle.salvage_paths.specs.Laws.Table.{closed-none, closed-kept, closed-gone}

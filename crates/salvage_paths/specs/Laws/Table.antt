@@ -16,7 +16,7 @@ use Rattle.format.specs.Record.{validImage}
 use Rattle.format.specs.Laws.Faults.{broken-takes}
 use Rattle.format.specs.Laws.Images.{names-directory}
 use Rattle.salvage_spec.specs.Salvage.{pathsBelow, newIndex, reindexed, keptImage}
-use Rattle.salvage_spec.specs.Laws.Good.{paths-few, index-below}
+use Rattle.salvage_spec.specs.Laws.Paths.{paths-few, index-below}
 use Rattle.salvage_paths.specs.Closed.{ClosedTo, Closes}
 
 module _ (s : List ℕ) (i : ℕ) where

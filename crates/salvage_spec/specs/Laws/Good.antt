@@ -1,34 +1,30 @@
 -- The catalogue is good: the writer answers neither 18 nor 20 to it.
 use Prim.Native.Nat.{ℕ, zero, suc, _+_, _^_, _≤_, _<_}
 use mathlib.Core.Path.{_≡_, refl, sym, _∙_}
-use mathlib.Core.List.{List, [], _∷_, _++_}
+use mathlib.Core.List.{List, [], _∷_}
 use mathlib.Core.Bool.{Bool, true, false, not, and-eq-true-iff}
-use native.Mathlib.Decide.{ℕ-discrete}
-use native.Mathlib.Nat.{add-zero, pow-suc}
+use native.Mathlib.Nat.{pow-suc}
 use native.Mathlib.Omega.{arith}
 use borrow.Author.Tests.{ne-eqb, lt-ltb, eqb-true, eqb-false, leb-true}
-use lib.ListN.{length, getD, length-append, length-map, List·getD-append, List·getD-map}
-use lib.Seq.{getD-append-add}
+use lib.ListN.{length, length-map, List·getD-map}
 use lib.Dec.{eqb, leb}
 use Rattle.format.specs.Choice.{if_then_else_}
 use Rattle.format.specs.Number.{be}
 use Rattle.format.specs.Part.{listInside}
-use Rattle.format.specs.Fault.{ifKept}
-use Rattle.format.specs.Header.{headerFault, directories, buckets, pathOf, pathFault}
+use Rattle.format.specs.Header.{headerFault, directories, buckets, pathFault}
 use Rattle.format.specs.Record.{namePart, imagesAt, images, validIndex, validImageList, validImage}
 use Rattle.format.specs.Words.{link}
-use Rattle.format.specs.Segments.{allowedPath}
 use Rattle.format.specs.Laws.Header.{header-valid}
 use Rattle.format.specs.Laws.Records.{name-valid}
 use Rattle.format.specs.Laws.Texts.{whole-allowed}
 use Rattle.format.specs.Laws.Images.{names-directory}
 use Rattle.catalogue.specs.Catalogue.{Image, Icon, Each, iconIs, names, NoneTwice, allowedImage, GoodImage, GoodIcon, Good}
 use Rattle.catalogue.specs.Fields.{AreBytes}
-use Rattle.catalogue.specs.Laws.Icons.{path-allowed}
 use Rattle.format.specs.Bytes.{joined}
 use Rattle.salvage_spec.specs.Meetings.{met}
 use Rattle.salvage_spec.specs.Salvage.{pathsBelow, newIndex, reindexed, keptImage, imagePlace, icon, chainIcons, icons, catalogue}
-use Rattle.salvage_spec.specs.Laws.Lists.{few-joined, one-or-none, each-joined, any-two-at}
+use Rattle.salvage_spec.specs.Laws.Lists.{few-joined, each-joined, any-two-at}
+use Rattle.salvage_spec.specs.Laws.Paths.{paths-few, paths-good, index-below}
 use Rattle.salvage_spec.specs.Laws.Kept.{Kept, kept-right}
 use Rattle.salvage_spec.specs.Laws.Names.{of-kept, names-differ}
 
@@ -38,45 +34,7 @@ unfolding be
 be-below s small zero p = omega arith
 be-below s small (suc w) p = rw (pow-suc 256 w) (omega (arith, be-below s small w p, small (p + w)))
 
-last-at : {A : Type 0} (xs : List (List A)) (x : List A) → getD (xs ++ x ∷ []) (length xs) [] ≡ x
-last-at xs x = rw (add-zero (length xs)) at (getD-append-add xs (x ∷ []) 0 [])
-
 module _ (s : List ℕ) where
-  pub paths-few : (n : ℕ) → length (pathsBelow s n) ≤ n
-  unfolding pathsBelow
-  paths-few n = few-joined _ n (λ i l. one-or-none (pathFault s i .number) (pathOf s i))
-
-  paths-good : (n : ℕ) → Each (λ p. allowedPath p ≡ true) (pathsBelow s n)
-  unfolding pathsBelow
-  paths-good n = each-joined _ _ n (λ i l. go i (pathFault s i .number) refl)
-    where
-      go : (i x : ℕ) → pathFault s i .number ≡ x
-          → Each (λ p. allowedPath p ≡ true) (elim x as (λ y. List (List ℕ)) [ zero ↦ pathOf s i ∷ [] | suc y ↦ [] ])
-      go i zero e = (path-allowed s i e, tt)
-      go i (suc x) e = tt
-
-  -- a kept directory has its new index below the count of the kept ones
-  pub index-below : (n i : ℕ) → i < n → pathFault s i .number ≡ 0 → newIndex s i < length (pathsBelow s n)
-  unfolding pathsBelow joined
-  index-below zero i l e = absurd (omega arith)
-  index-below (suc n) i l e = elim (ℕ-discrete i n) [
-    | yes q ↦ rw (← q, e) (omega (arith, length-append (pathsBelow s i) (pathOf s i ∷ [])))
-    | no a ↦ omega (arith, length-append (pathsBelow s n) (ifKept (pathFault s n) (pathOf s n ∷ []) []), index-below n i (omega arith) e)
-  ]
-
-  -- and its path stands there
-  path-at : (n i : ℕ) → i < n → pathFault s i .number ≡ 0 → getD (pathsBelow s n) (newIndex s i) [] ≡ pathOf s i
-  unfolding pathsBelow joined
-  path-at zero i l e = absurd (omega arith)
-  path-at (suc n) i l e = elim (ℕ-discrete i n) [
-    | yes q ↦ rw (← q, e) (last-at (pathsBelow s i) (pathOf s i))
-    | no a ↦ List·getD-append (pathsBelow s n) _ [] (newIndex s i) (index-below n i (omega arith) e) ∙ path-at n i (omega arith) e
-  ]
-
-  pub closes-up : (i : ℕ) → i < directories s → pathFault s i .number ≡ 0 → getD (catalogue s .paths) (newIndex s i) [] ≡ pathOf s i
-  unfolding catalogue
-  closes-up = path-at (directories s)
-
   image-few : (p : ℕ) → length (keptImage s p) ≤ 1
   unfolding keptImage
   image-few p = go (validImage s p) (eqb (directories s) 0) (pathFault s (be 2 s p) .number)
@@ -117,7 +75,7 @@ module _ (s : List ℕ) where
             → allowedImage count (reindexed s p (newIndex s (be 2 s p))) ≡ true
         closed-up e some kept =
             let index : be 2 s p < directories s = names-directory s p e some in
-            let below = index-below (directories s) (be 2 s p) index kept in
+            let below = index-below s (directories s) (be 2 s p) index kept in
             let filled : count ≡ 0 → ⊥ = λ z. omega arith in
             rw (ne-eqb count 0 filled, lt-ltb _ _ below) (flags-right p e)
 
@@ -149,8 +107,8 @@ module _ (s : List ℕ) where
     pub good : headerFault s .number ≡ 0 → Good (catalogue s)
     unfolding catalogue
     good e = record {
-      paths-few = omega (arith, paths-few (directories s), header-valid s e .directories-few);
-      paths-good = paths-good (directories s);
+      paths-few = omega (arith, paths-few s (directories s), header-valid s e .directories-few);
+      paths-good = paths-good s (directories s);
       icons-good = icons-good;
       none-twice = names-apart;
     }

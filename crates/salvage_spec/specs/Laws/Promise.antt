@@ -9,7 +9,8 @@ use Rattle.salvage_spec.specs.Laws.Names.{one-chain, equal-goes}
 use Rattle.salvage_spec.specs.Laws.Accounts.{accounts}
 use Rattle.salvage_spec.specs.Laws.Sound.{all-met}
 use Rattle.salvage_spec.specs.Laws.Whole.{keeps-all}
-use Rattle.salvage_spec.specs.Laws.Good.{closes-up, good}
+use Rattle.salvage_spec.specs.Laws.Paths.{closes-up}
+use Rattle.salvage_spec.specs.Laws.Good.{good}
 use Rattle.salvage_spec.specs.Laws.Repairs.{repairs}
 
 pub salvages : (s : List ℕ) → Salvages s
