@@ -409,7 +409,7 @@ uint32_t icon_cache_catalogue(const uint8_t *cache, size_t cache_len,
  *        records share lists and strings, both may be much longer than the cache
  *
  * 65,535 icons take some tenths of a second; a cache of 16 MiB that was made to
- * cost time can take a quarter of a minute.
+ * cost time can take some twenty seconds.
  */
 uint32_t icon_cache_salvage(const uint8_t *cache, size_t cache_len,
                             uint8_t *catalogue, size_t catalogue_len,
