@@ -11,7 +11,7 @@ use Rattle.format.specs.declared.Reading.the-variants.{Short}
 use Rattle.tables.specs.declared.Tables.{Tables}
 use Rattle.catalogue.specs.Catalogue.{mostIcons, pathBytes, iconBytes}
 use Rattle.catalogue.specs.Listed.{iconOf}
-use Rattle.gathering.specs.Chains.{Sound}
+use Rattle.tables.specs.Tables.{Sound}
 use Rattle.gathering.specs.Order.{Ordered}
 use Rattle.export.specs.declared.parts.IconParts.{IconParts}
 

@@ -9,7 +9,7 @@ ghost use lib.ListN.{length};
 ghost use Rattle.format.specs.Chain.{allRecords};
 ghost use Rattle.format.specs.declared.Reading.the-variants.{Short};
 ghost use Rattle.catalogue.specs.Call.{catalogueOf, catalogueLeaves};
-ghost use Rattle.gathering.specs.Chains.{Sound};
+ghost use Rattle.tables.specs.Tables.{Sound};
 use catalogue::WriteAnswer;
 use gathering::order;
 use gathering::repeated;

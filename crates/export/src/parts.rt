@@ -5,7 +5,7 @@ ghost use lib.ListN.{length};
 ghost use Rattle.format.specs.Header.{directories};
 ghost use Rattle.catalogue.specs.Catalogue.{iconBytes};
 ghost use Rattle.catalogue.specs.Listed.{iconOf};
-ghost use Rattle.gathering.specs.Chains.{Sound};
+ghost use Rattle.tables.specs.Tables.{Sound};
 ghost use Rattle.export.specs.Parts.{Kept, partsOf, pathPiece};
 use bigendian::u32_at;
 use strings::name_length;

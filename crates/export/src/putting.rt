@@ -9,7 +9,7 @@ ghost use Rattle.catalogue.specs.Catalogue.{iconBytes};
 ghost use Rattle.catalogue.specs.Fields.{part};
 ghost use Rattle.catalogue.specs.Listed.{iconOf};
 ghost use Rattle.catalogue.specs.Call.{listedBytes};
-ghost use Rattle.gathering.specs.Chains.{Sound};
+ghost use Rattle.tables.specs.Tables.{Sound};
 ghost use Rattle.export.specs.Parts.{Kept, pathPiece, iconPiece, Indexed};
 use bigendian::put_byte;
 use bigendian::put_u16;

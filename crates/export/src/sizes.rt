@@ -5,7 +5,7 @@ ghost use lib.ListN.{length};
 ghost use Rattle.format.specs.Bytes.{joined};
 ghost use Rattle.format.specs.Header.{directories};
 ghost use Rattle.catalogue.specs.Call.{listedBytes};
-ghost use Rattle.gathering.specs.Chains.{Sound};
+ghost use Rattle.tables.specs.Tables.{Sound};
 ghost use Rattle.export.specs.Parts.{pathPiece, iconPiece, Indexed};
 use crate::parts::icon_size;
 use crate::parts::path_size;

@@ -4,17 +4,9 @@ use mathlib.Core.List.{List, [], map}
 use Rattle.format.specs.Layout.{nameField}
 use Rattle.format.specs.Record.{nameOf}
 use Rattle.format.specs.Chain.{chainOf, mostRecords}
-use Rattle.format.specs.Words.{Accepted}
 use Rattle.format.specs.declared.Fault.{Fault}
 use Rattle.format.specs.declared.Reading.the-variants.{Short}
-use Rattle.tables.specs.Tables.{TablesOf}
-use Rattle.tables.specs.declared.Tables.{Tables}
 use Rattle.catalogue.specs.Repeats.{Use, useIs, repeatFault}
-
--- the cache is accepted, and t is what it says of its tables
-pub record Sound (s : List ℕ) (t : Tables) : Type 0 where
-  pub tables : TablesOf s t
-  pub accepted : Accepted Short s
 
 -- the names of records, each refused at its NAME_OFFSET
 abbrev pub usesOf : List ℕ → List ℕ → List Use

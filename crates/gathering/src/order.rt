@@ -5,7 +5,7 @@ ghost use lib.ListN.{length};
 ghost use Rattle.format.specs.Header.{buckets};
 ghost use Rattle.format.specs.Chain.{recordsBelow, allRecords};
 ghost use Rattle.format.specs.declared.Reading.the-variants.{Short};
-ghost use Rattle.gathering.specs.Chains.{Sound};
+ghost use Rattle.tables.specs.Tables.{Sound};
 ghost use Rattle.gathering.specs.Order.{Gathered, Ordered};
 use bigendian::u32_at;
 use keys::Kind;

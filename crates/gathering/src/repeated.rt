@@ -9,7 +9,8 @@ ghost use Rattle.format.specs.Words.{Holds};
 ghost use Rattle.format.specs.declared.Reading.the-variants.{Short};
 ghost use Rattle.catalogue.specs.Repeats.{repeatFault};
 ghost use Rattle.catalogue.specs.Listed.{recordUses};
-ghost use Rattle.gathering.specs.Chains.{Sound, chainRepeat};
+ghost use Rattle.tables.specs.Tables.{Sound};
+ghost use Rattle.gathering.specs.Chains.{chainRepeat};
 use bigendian::u32_at;
 use format::Fault;
 use rounds::ahead;
@@ -17,7 +18,7 @@ use tables::Tables;
 use tables::bucket_field;
 
 // How many records the chain of `bucket` has.
-fn count(cache: &[u8], t: Tables, bucket: u32) -> usize
+pub fn count(cache: &[u8], t: Tables, bucket: u32) -> usize
     requires { ⌜ Sound (now cache) t × (bucket < buckets (now cache)) ⌝ }
     ensures { λ r. ⌜ Holds Short (now (cache .entry)) bucket r ⌝ }
 {

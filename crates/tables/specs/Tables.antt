@@ -10,6 +10,8 @@ use Rattle.format.specs.Number.{be}
 use Rattle.format.specs.Part.{listInside}
 use Rattle.format.specs.Fault.{fault, ifKept}
 use Rattle.format.specs.Header.{headerFault, bucketsAt, buckets, directoriesAt, directories, pathField, pathOf, pathFault}
+use Rattle.format.specs.Words.{Accepted}
+use Rattle.format.specs.declared.Reading.the-variants.{Short}
 use Rattle.tables.specs.declared.Tables.{Tables}
 use Rattle.tables.specs.declared.JudgedPath.{JudgedPath}
 
@@ -25,6 +27,11 @@ tablesIn s = record { «buckets_at» = bucketsAt s; buckets = buckets s; «direc
 pub record TablesOf (s : List ℕ) (t : Tables) : Type 0 where
   pub header : headerFault s .number ≡ 0
   pub tables : t ≡ tablesIn s
+
+-- and the whole cache is accepted
+pub record Sound (s : List ℕ) (t : Tables) : Type 0 where
+  pub tables : TablesOf s t
+  pub accepted : Accepted Short s
 
 -- the field of bucket k, and that of the path of directory i
 abbrev pub bucketFieldOf : Tables → ℕ → ℕ

@@ -22,7 +22,7 @@ use Rattle.catalogue.specs.Listed.{recordUses}
 use Rattle.catalogue.specs.Call.{writeIs, answerTo, leftBy, listedBytes, listingFault, catalogueOf, catalogueLeaves}
 use Rattle.catalogue.specs.Laws.Call.{answered, leaves-written, refused}
 use Rattle.catalogue.specs.declared.WriteAnswer.{WriteAnswer}
-use Rattle.gathering.specs.Chains.{Sound}
+use Rattle.tables.specs.Tables.{Sound}
 
 -- the answer and the bytes after it are the reader's
 abbrev pub Told : List ℕ → List ℕ → WriteAnswer → List ℕ → Type 0

@@ -26,7 +26,7 @@ use Rattle.catalogue.specs.Laws.Spans.{Spans, spans-none, spans-join, spans-end
 use Rattle.catalogue.specs.Laws.Judged.{image-spans}
 use Rattle.catalogue.specs.Laws.Images.{images-length}
 use Rattle.catalogue.specs.Laws.Icons.{paths-each}
-use Rattle.gathering.specs.Chains.{Sound}
+use Rattle.tables.specs.Tables.{Sound}
 use Rattle.export.specs.Parts.{Kept, partsOf, pathPiece}
 use Rattle.export.specs.declared.parts.IconParts.{IconParts}
 

@@ -21,7 +21,7 @@ use Rattle.catalogue.specs.Call.{listedBytes}
 use Rattle.catalogue.specs.Laws.Rising.{firsts-length, map-firsts}
 use Rattle.catalogue.specs.Laws.Elements.{rising-few}
 use Rattle.catalogue.specs.Laws.Reader.{order-each-once}
-use Rattle.gathering.specs.Chains.{Sound}
+use Rattle.tables.specs.Tables.{Sound}
 use Rattle.gathering.specs.Order.{Ordered}
 use Rattle.export.specs.Parts.{Kept, pathPiece, iconPiece, Indexed}
 

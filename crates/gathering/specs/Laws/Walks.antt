@@ -15,7 +15,7 @@ use Rattle.format.specs.declared.Reading.the-variants.{Short}
 use Rattle.tables.specs.Laws.{field-inside}
 use Rattle.tables.specs.declared.Tables.{Tables}
 use Rattle.chains.specs.Walk.{Stands}
-use Rattle.gathering.specs.Chains.{Sound}
+use Rattle.tables.specs.Tables.{Sound}
 
 -- the chain of bucket k holds, and how many records it has
 pub chain-holds : {s : List ℕ} {t : Tables} → Sound s t → (k : ℕ) → k < buckets s → (n : ℕ) × Holds Short s k n
