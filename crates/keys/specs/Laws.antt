@@ -66,7 +66,7 @@ order-equal (x ∷ a) (y ∷ b) e = go (compared x y) (order-equal a b)
     go (greater h) same = cc (first-greater x y a b h)
     go (equal h) same = let t = same (sym (first-equal x y a b h) ∙ e) in cc
 
-order-itself : (a : List ℕ) → order a a ≡ Equal
+pub order-itself : (a : List ℕ) → order a a ≡ Equal
 unfolding order
 order-itself [] = refl
 order-itself (x ∷ a) = first-equal x x a a refl ∙ order-itself a

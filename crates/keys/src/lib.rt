@@ -4,7 +4,8 @@ ghost use mathlib.Core.List.{[], _∷_};
 ghost use lib.ListN.{take, getD};
 ghost use Rattle.format.specs.String.{string};
 ghost use Rattle.keys.specs.Order.{order};
-ghost use Rattle.keys.specs.Key.{nameAfter, keyAt};
+ghost use Rattle.keys.specs.Key.{nameAfter, listFrom, keyAt};
+use bigendian::u32_at;
 use strings::from;
 
 // What the key of an offset is.
@@ -15,6 +16,8 @@ pub enum Kind {
     Counted,
     // The offset itself: of a record.
     Offset,
+    // The image list there, its count and its images: one of a cache.
+    Images,
 }
 
 // How one key compares with another.
@@ -45,6 +48,18 @@ fn name_after(s: &[u8], at: u32) -> &[u8]
     let start = at as usize;
     let n = byte(s, start) as usize;
     front(from(s, start + 1), n)
+}
+
+// The image list at `at`: its count and as many images, and no more bytes than there are.
+fn list_from(s: &[u8], at: u32) -> &[u8]
+    ensures { λ r. ⌜ now r ≡ listFrom (now (s .entry)) at ⌝ }
+{
+    let start = at as usize;
+    let part = from(s, start);
+    if part.len() < 4 {
+        return part;
+    }
+    front(part, 4 + 8 * u32_at(s, start) as usize)
 }
 
 // How the strings at the fronts of two parts compare. Neither's end is looked for: a zero byte, as
@@ -112,13 +127,17 @@ fn compare_numbers(a: u32, b: u32) -> Ordering
     }
 }
 
-// How the key of `a` compares with that of `b`.
+// How the key of `a` compares with that of `b`. The keys of one offset are not read.
 pub fn compare(s: &[u8], kind: Kind, a: u32, b: u32) -> Ordering
     ensures { λ r. ⌜ r ≡ order (keyAt kind (now (s .entry)) a) (keyAt kind (now (s .entry)) b) ⌝ }
 {
+    if a == b {
+        return Ordering::Equal;
+    }
     match kind {
         Kind::Ended => compare_strings(from(s, a as usize), from(s, b as usize)),
         Kind::Counted => compare_bytes(name_after(s, a), name_after(s, b)),
         Kind::Offset => compare_numbers(a, b),
+        Kind::Images => compare_bytes(list_from(s, a), list_from(s, b)),
     }
 }
