@@ -4,16 +4,20 @@ use Prim.Native.Nat.{ℕ, zero, suc, _+_, _-_, _≤_, _<_}
 use mathlib.Core.Path.{_≡_, refl, sym, ap, _∙_}
 use mathlib.Core.Logic.{_⊎_, inl, inr, ⊎-elim}
 use mathlib.Core.List.{List}
-use mathlib.Core.Bool.{Bool, true, false, not-eq-not, false≢true}
+use mathlib.Core.Bool.{Bool, true, false, _||_, not-eq-not, false≢true, or-false, or-assoc, or-comm}
+use native.Mathlib.Nat.{add-zero, add-suc}
 use native.Mathlib.Numerals.{add-one}
 use native.Mathlib.Omega.{arith}
 use native.Mathlib.Decide.{decLt}
 use borrow.Author.Count.{below-more}
-use Rattle.format.specs.String.{among}
+use Rattle.format.specs.String.{sameBytes, among}
 use Rattle.format.specs.Laws.Names.{among-first, among-rest, among-either}
 use Rattle.names.specs.Index.{Answered}
 use Rattle.names.specs.Repeat.{Named, Repeated, FirstRepeat, seen, Taken, Looked}
 use Rattle.names.specs.Laws.Index.{nothing-met}
+
+or-first : (a b c : Bool) → (a || (b || c)) ≡ (b || (a || c))
+or-first a b c = sym (or-assoc a b c) ∙ ap (λ d. d || c) (or-comm a b) ∙ or-assoc b a c
 
 module _ (name : ℕ → List ℕ) where
   -- the first n are those seen
@@ -33,6 +37,16 @@ module _ (name : ℕ → List ℕ) where
   seen-named zero t e = absurd (false≢true e)
   seen-named (suc n) t e =
       ⊎-elim (λ same. (n, omega arith, sym same)) (λ m. let (j, l, q) = seen-named n t m in (j, omega arith, q)) (among-either t (name n) (seen name n) e)
+
+  -- the first of them, and those behind
+  pub seen-parts : {rest : ℕ → List ℕ} (m n : ℕ) → ((i : ℕ) → rest i ≡ name (m + i)) → (t : List ℕ)
+      → among t (seen name (m + n)) ≡ (among t (seen name m) || among t (seen rest n))
+  unfolding seen among
+  seen-parts m zero shift t = rw add-zero (sym (or-false (among t (seen name m))))
+  seen-parts {rest} m (suc n) shift t =
+      let here : sameBytes t (name (m + n)) ≡ sameBytes t (rest n) = ap (sameBytes t) (sym (shift n)) in
+      rw add-suc (ap (λ b. sameBytes t (name (m + n)) || b) (seen-parts m n shift t) ∙ ap (λ b. b || (among t (seen name m) || among t (seen rest n))) here
+      ∙ or-first (sameBytes t (rest n)) (among t (seen name m)) (among t (seen rest n)))
 
   pub none-repeated : FirstRepeat name 0 0
   none-repeated = record { within = omega arith; before = λ i l. absurd (omega arith); here = inl refl }
