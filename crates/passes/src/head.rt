@@ -20,7 +20,7 @@ fn header(out: &mut [u8], directories: usize)
 }
 
 // Puts the end value into `n` fields of `out` from `at` on.
-fn clear(out: &mut [u8], at: usize, n: usize)
+pub fn clear(out: &mut [u8], at: usize, n: usize)
     requires { ⌜ at + 4 * n ≤ length (now out) ⌝ }
     ensures { λ _. ⌜ now (out .exit) ≡ put (now (out .entry)) at (joined (λ _. bytes 4 endValue) n) ⌝ }
 {

@@ -1,12 +1,12 @@
 -- What the records of a cache are put by, and when it may be written.
 use Prim.Native.Nat.{ℕ, _%_, _≤_, _<_}
 use mathlib.Core.Path.{_≡_}
-use mathlib.Core.List.{List, _++_}
+use mathlib.Core.List.{List}
 use lib.ListN.{length}
 use lib.Dec.{eqb}
 use Rattle.format.specs.Choice.{if_then_else_}
 use Rattle.format.specs.Layout.{headerSize, entryField, chainField, endValue}
-use Rattle.format.specs.Bytes.{bytes, put}
+use Rattle.format.specs.Bytes.{put}
 use Rattle.format.specs.String.{hash}
 use Rattle.catalogue.specs.Catalogue.{Catalogue}
 use Rattle.catalogue.specs.Fields.{nameText}
@@ -20,10 +20,6 @@ leads r k = if eqb r endValue then entryField headerSize k else chainField r
 -- the bucket, of b, of the icon at p
 abbrev pub bucketAt : List ℕ → ℕ → ℕ → ℕ
 bucketAt c p b = hash (nameText c p) % b
-
--- a buffer after a record at r was put into it, and r into the field f that leads to it
-abbrev pub appended : List ℕ → ℕ → ℕ → ℕ → ℕ → List ℕ
-appended s r name images f = put (put s r (bytes 4 endValue ++ bytes 4 name ++ bytes 4 images)) f (bytes 4 r)
 
 -- the cache of the catalogue d with b buckets may be written, and has room in `out`
 pub record Fits (d : Catalogue) (b : ℕ) (out : List ℕ) : Type 0 where

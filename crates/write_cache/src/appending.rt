@@ -1,19 +1,19 @@
 // The records of a cache: each icon is appended to the chain of its bucket.
 ghost use mathlib.Core.Path.{_≡_};
-ghost use mathlib.Core.List.{_++_};
 ghost use Prim.Native.Nat.{ℕ, _+_, _*_, _%_, _^_, _≤_, _<_};
 ghost use lib.ListN.{length, getD, set, replicate};
 ghost use Rattle.format.specs.Layout.{endValue};
-ghost use Rattle.format.specs.Bytes.{bytes, put};
+ghost use Rattle.format.specs.Bytes.{put};
 ghost use Rattle.format.specs.String.{hash};
 ghost use Rattle.catalogue.specs.Fields.{nameText, catalogueIn};
 ghost use Rattle.catalogue.specs.Written.{places, front};
 ghost use Rattle.catalogue.specs.Laws.Cursor.{IconThere};
 ghost use Rattle.passes.specs.Passes.{Judged};
-ghost use Rattle.write_cache.specs.Appending.{leads, bucketAt, appended, Ready};
+ghost use Rattle.passes.specs.Record.{appended};
+ghost use Rattle.write_cache.specs.Appending.{leads, bucketAt, Ready};
 use bigendian::byte;
-use bigendian::put_u32;
 use judging::icon_end;
+use passes::record;
 use passes::sizes::list_size;
 
 // The bucket, of `buckets`, of the name of the icon at `icon`.
@@ -25,16 +25,6 @@ fn bucket(catalogue: &[u8], icon: usize, buckets: usize) -> usize
     let end = text + byte(catalogue, icon) as usize;
     let name = strings::asked(&catalogue[text..end]);
     name.hash as usize % buckets
-}
-
-// Puts a record that no other follows on its chain into `out` at `at`.
-fn record(out: &mut [u8], at: usize, name: usize, images: usize)
-    requires { ⌜ (at + 12 ≤ length (now out)) × (name < 2 ^ 32) × (images < 2 ^ 32) ⌝ }
-    ensures { λ _. ⌜ now (out .exit) ≡ put (now (out .entry)) at (bytes 4 endValue ++ bytes 4 name ++ bytes 4 images) ⌝ }
-{
-    put_u32(out, at, 0xFFFF_FFFF);
-    put_u32(out, at + 4, name as u32);
-    put_u32(out, at + 8, images as u32);
 }
 
 // The field that leads to the next record of bucket `k`, whose last record is `last`.
@@ -68,9 +58,8 @@ fn append(
     ensures { λ _. ⌜ now (last .exit) ≡ set (now (last .entry)) (bucketAt (now (catalogue .entry)) icon buckets) at ⌝ }
 {
     let k = bucket(catalogue, icon, buckets);
-    record(out, at, name, images);
     let field = lead(last[k], k);
-    put_u32(out, field, at as u32);
+    record::append(out, at, name, images, field);
     last[k] = at as u32;
 }
 

@@ -25,7 +25,8 @@ use Rattle.catalogue.specs.Laws.Grows.{lead-below, front-grows}
 use Rattle.passes.specs.Passes.{Judged}
 use Rattle.passes.specs.Laws.Icons.{icon-is, name-size, list-size}
 use Rattle.passes.specs.Laws.Counts.{icons-are}
-use Rattle.write_cache.specs.Appending.{leads, bucketAt, appended, Ready}
+use Rattle.passes.specs.Record.{appended}
+use Rattle.write_cache.specs.Appending.{leads, bucketAt, Ready}
 
 -- the records of i icons stand in the buffer, the next goes to `at`, with its name and list there,
 -- and `last` holds the last record of each bucket
