@@ -1,0 +1,3 @@
+-- What the functions of this crate hand to one another.
+pub mod Listed
+pub mod Laws
