@@ -1,0 +1,4 @@
+-- What the proofs of the code rest on.
+pub mod Maps
+pub mod Both
+pub mod Firsts
