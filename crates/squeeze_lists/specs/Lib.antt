@@ -1,0 +1,4 @@
+-- What the functions of this crate hand to one another, and to their callers.
+pub mod Cells
+pub mod Shares
+pub mod Laws
