@@ -1,0 +1,3 @@
+-- What the functions of this crate hand to one another, and to their callers.
+pub mod Recorded
+pub mod Laws
