@@ -333,6 +333,18 @@ static void repair(void)
     }
 }
 
+/* Rewrites the cache without dead bytes; with image data it is refused. */
+static void squeeze(void)
+{
+    size_t place, length, again;
+    uint32_t number = icon_cache_squeeze(cache, cache_len, written, sizeof written,
+                                         &place, &length);
+    if (say_written("squeeze", number, place, length)) {
+        number = icon_cache_squeeze(written, length, catalogue, sizeof catalogue, &place, &again);
+        say_written("squeeze of that", number, place, again);
+    }
+}
+
 int main(int argc, char **argv)
 {
     if (argc != 3) {
@@ -349,5 +361,6 @@ int main(int argc, char **argv)
     pick_some(argv[2]);
     write_again();
     repair();
+    squeeze();
     return refused || not_found;
 }

@@ -6,7 +6,7 @@
  * words and any number, and returns an answer number:
  *
  *    0  accepted, found, handed back, picked,    place: 0, the record found, or
- *       written or salvaged                             the image picked
+ *       written, salvaged or squeezed                   the image picked
  *    1  fewer than 12 bytes                      place: 0
  *    2  more than 16,777,216 bytes               place: 0
  *    3  the version is not 1.0                   place: 0
@@ -48,6 +48,8 @@
  *                                                       the pixel data
  *   24  a language or a display name is empty,   place: the field that names
  *       too long or runs off the end                    it
+ *   25  a cache to be squeezed has more than     place: 4
+ *       4,096 buckets, or an image with data     place: the image
  *   26  the position names no bucket, or its     place: 0
  *       count is more than the length less 11
  *   27  the flags are above 15, or the           place: 0
@@ -76,9 +78,9 @@
  *    read too, so a number stands in both.
  * Nothing is kept after a call returns, and nothing is allocated.
  * icon_cache_write and icon_cache_catalogue take up to 300 KiB of stack, for an
- * index of names or records, and icon_cache_salvage up to 400 KiB; no other call
- * takes more than 700 bytes. Calls on different outputs may run at the same
- * time.
+ * index of names or records, icon_cache_salvage up to 400 KiB, and
+ * icon_cache_squeeze up to 640 KiB; no other call takes more than 700 bytes.
+ * Calls on different outputs may run at the same time.
  */
 #ifndef ICON_CACHE_H
 #define ICON_CACHE_H
@@ -415,6 +417,42 @@ uint32_t icon_cache_salvage(const uint8_t *cache, size_t cache_len,
                             uint8_t *catalogue, size_t catalogue_len,
                             uint32_t *report, size_t report_len,
                             size_t *place, size_t *length, size_t *rows);
+
+/*
+ * Squeezes the dead bytes out of a cache: writes it anew with as many buckets,
+ * in the layout of icon_cache_write, without gaps, without the records whose
+ * name an icon before them has, and with equal strings and equal image lists
+ * once. The icons stand in the order in which the check meets them. Each list
+ * stands where it is first used, and so does each string, paths before names; a
+ * name equal to a path is that path's string.
+ *
+ * The check accepts the result, and a lookup of any name gives the same number
+ * and the same images as before. Squeezed again, the result gives its own
+ * bytes.
+ *
+ * With 0, *length is how many bytes were written at the front of `squeezed`,
+ * and the bytes beyond are as they were. With any other number *length is 0 and
+ * all are as they were.
+ *
+ * In this order it refuses
+ *
+ *        what icon_cache_check refuses, at the same places
+ *    25  more than 4,096 buckets, at 4
+ *    25  the first image with data, in the order of the check, at the image,
+ *        even of a record that goes: data is not written
+ *    19  too little room, or more than 16,777,216 bytes, at 0. Where no parts
+ *        of the cache overlap, the result is not longer than the cache; else
+ *        it may be
+ *
+ * It takes up to 640 KiB of stack. 455,000 icons that share 600 lists take less
+ * than a second, as many with different lists some four seconds, and 800,000
+ * names on one chain about one. Each record beyond 983,040 is compared with all
+ * before it on its chain: a cache of 16 MiB that was made for it, with some 12
+ * bytes for each record, can take days, so a limit of time is advised.
+ */
+uint32_t icon_cache_squeeze(const uint8_t *cache, size_t cache_len,
+                            uint8_t *squeezed, size_t squeezed_len,
+                            size_t *place, size_t *length);
 
 #ifdef __cplusplus
 }

@@ -45,6 +45,7 @@ pub fn ask(case: &[u8], line: &[u8], w: Words, buffer: &[u8], length: usize) {
         b'n' => answers::flags(w.a, w.b),
         b's' => step(case, cache, w.a, w.b),
         b'v' => notes::view(case, cache, w.a, w.b),
+        b'x' => catalogues::squeeze(case, cache, w.a, buffer),
         b'y' => salvages::save(case, cache, w.a, w.b, buffer),
         _ => {}
     }

@@ -1,5 +1,5 @@
-// Catalogues written as caches, and caches listed as catalogues. What is to stand in the lent bytes
-// stands in the buffer, from 1,024 on.
+// Catalogues written as caches, caches listed as catalogues, and caches squeezed. What is to stand in
+// the lent bytes stands in the buffer, from 1,024 on.
 use crate::answers;
 use catalogue::WriteAnswer;
 
@@ -37,6 +37,22 @@ fn list_into(case: &[u8], cache: &[u8], lent: &mut [u8], buffer: &[u8]) {
 pub fn list(case: &[u8], cache: &[u8], room: usize, buffer: &[u8]) {
     let mut bytes = [46u8; 256];
     list_into(
+        case,
+        cache,
+        cases_lent::front_bytes(&mut bytes, room),
+        buffer,
+    );
+}
+
+fn squeeze_into(case: &[u8], cache: &[u8], lent: &mut [u8], buffer: &[u8]) {
+    let answer = squeeze::squeeze(cache, lent);
+    say(case, b": squeeze ", answer, lent, buffer);
+}
+
+// Squeezes a cache in the same way.
+pub fn squeeze(case: &[u8], cache: &[u8], room: usize, buffer: &[u8]) {
+    let mut bytes = [46u8; 256];
+    squeeze_into(
         case,
         cache,
         cases_lent::front_bytes(&mut bytes, room),

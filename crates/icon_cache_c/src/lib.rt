@@ -13,6 +13,7 @@ ghost use Rattle.flags.specs.Flags.{flagsIs, flagsIn, flagsOut};
 ghost use Rattle.image_data.specs.Call.{rectangleIs, pointIs, stringIs, rectangle, attachPoint, displayLanguage, displayText};
 ghost use Rattle.catalogue.specs.Call.{writeIs, write, writeLeaves, catalogueOf, catalogueLeaves};
 ghost use Rattle.salvage_spec.specs.Call.{salvageIs, salvage, bytesLeft, wordsLeft};
+ghost use Rattle.squeeze_spec.specs.Call.{squeeze, squeezeLeaves};
 use format::CheckAnswer;
 use listing::Position;
 
@@ -290,5 +291,21 @@ pub extern "C" fn icon_cache_salvage(
     *place = answer.place;
     *saved = answer.length;
     *rows = answer.rows;
+    answer.number
+}
+
+#[no_mangle]
+pub extern "C" fn icon_cache_squeeze(
+    cache: &[u8],
+    squeezed: &mut [u8],
+    place: &mut usize,
+    written: &mut usize,
+) -> u32
+    ensures answer { λ r. ⌜ writeIs r (now (place .exit)) (now (written .exit)) ≡ squeeze (now (cache .entry)) (length (now (squeezed .entry))) ⌝ }
+    ensures lent { λ r. ⌜ now (squeezed .exit) ≡ squeezeLeaves (now (cache .entry)) (now (squeezed .entry)) ⌝ }
+{
+    let answer = squeeze::squeeze(cache, squeezed);
+    *place = answer.place;
+    *written = answer.length;
     answer.number
 }
