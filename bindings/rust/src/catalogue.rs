@@ -222,7 +222,7 @@ fn judge(catalogue: &[u8]) -> Result<(), Refusal> {
     }
 }
 
-fn kept(answer: raw::Written) -> Result<(), Refusal> {
+pub(crate) fn kept(answer: raw::Written) -> Result<(), Refusal> {
     match answer.number {
         0 => Ok(()),
         number => Err(Refusal {

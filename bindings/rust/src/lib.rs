@@ -9,7 +9,7 @@
 //! image of an icon for a size; what the directories are made for is told by
 //! the words that a [`Theme`] gives. [`write`] makes a cache from a [`Catalogue`],
 //! [`catalogue_of`] lists a cache as one, and [`salvage`] lists what is sound of a
-//! damaged one and reports what went.
+//! damaged one and reports what went. [`squeeze`] rewrites a cache without dead bytes.
 //!
 //! ```
 //! use icon_cache::{check, directory, lookup, records, FARM_CACHE};
@@ -40,6 +40,7 @@ pub mod raw;
 mod records;
 mod refusal;
 mod salvage;
+mod squeeze;
 mod theme;
 
 pub use catalogue::{catalogue_of, write, Catalogue, Icon, MOST_BUCKETS};
@@ -51,6 +52,7 @@ pub use raw::Position;
 pub use records::{records, records_from, Record, Records};
 pub use refusal::Refusal;
 pub use salvage::{salvage, About, Row, Rows, Salvaged};
+pub use squeeze::squeeze;
 pub use theme::{Theme, ThemeError, ThemeFault};
 
 /// The largest length of a cache, 16 MiB. A longer one is refused.

@@ -152,7 +152,7 @@ pub struct Text {
     pub length: usize,
 }
 
-/// The answer of [`write`] and [`catalogue_of`].
+/// The answer of [`write`], [`catalogue_of`] and [`squeeze`].
 #[derive(Clone, Copy, Debug, PartialEq, Eq)]
 pub struct Written {
     /// The answer number, 0 if something was written.
@@ -306,6 +306,15 @@ mod c {
             cache_len: usize,
             catalogue: *mut u8,
             catalogue_len: usize,
+            place: *mut usize,
+            length: *mut usize,
+        ) -> u32;
+
+        pub fn icon_cache_squeeze(
+            cache: *const u8,
+            cache_len: usize,
+            squeezed: *mut u8,
+            squeezed_len: usize,
             place: *mut usize,
             length: *mut usize,
         ) -> u32;
@@ -740,5 +749,30 @@ pub fn salvage(cache: &[u8], catalogue: &mut [u8], report: &mut [u32]) -> Salvag
         place,
         length,
         rows,
+    }
+}
+
+/// Squeezes the dead bytes out of a cache, into the front of the bytes lent; those behind
+/// stay as they were, and so do all with a refusal. It needs 640 KiB of stack.
+pub fn squeeze(cache: &[u8], squeezed: &mut [u8]) -> Written {
+    let mut place = UNWRITTEN;
+    let mut length = UNWRITTEN;
+    let mut no_bytes = 0;
+    // SAFETY: the pointers are valid for the lengths given and for this call,
+    // and only the lent bytes and the two numbers are written.
+    let number = unsafe {
+        c::icon_cache_squeeze(
+            address(cache),
+            cache.len(),
+            lent_address(squeezed, &mut no_bytes),
+            squeezed.len(),
+            &mut place,
+            &mut length,
+        )
+    };
+    Written {
+        number,
+        place,
+        length,
     }
 }

@@ -19,7 +19,7 @@ use std::fmt;
 /// ```
 #[derive(Clone, Copy, Debug, PartialEq, Eq)]
 pub struct Refusal {
-    /// The answer number, 1 to 24, 26, 27 or 30 to 33.
+    /// The answer number, 1 to 27 or 30 to 33.
     pub number: u32,
     /// The offset of the fault in the cache, 0 where it has none; from
     /// [`write`](crate::write) and [`Catalogue`](crate::Catalogue) in the catalogue.
@@ -31,8 +31,8 @@ pub struct Refusal {
     /// [`notes`](crate::notes), [`write`](crate::write) and
     /// [`Catalogue`](crate::Catalogue), which open none, and from
     /// [`Records`](crate::Records), [`pick`](crate::pick),
-    /// [`catalogue_of`](crate::catalogue_of) and [`salvage`](crate::salvage()), which
-    /// don't count them.
+    /// [`catalogue_of`](crate::catalogue_of), [`salvage`](crate::salvage()) and
+    /// [`squeeze`](crate::squeeze()), which don't count them.
     pub opened: usize,
 }
 
@@ -101,6 +101,9 @@ impl Refusal {
     /// runs off the end. The place is the field that names it; other entries may still be
     /// asked for.
     pub const BAD_DISPLAY_NAME: u32 = 24;
+    /// A cache to be squeezed has more than 4,096 buckets, and the place is 4, or an image
+    /// with data, and the place is that image.
+    pub const NOT_WRITTEN: u32 = 25;
     /// The position names no bucket, or its count is more than the cache's
     /// length less 11.
     pub const BAD_POSITION: u32 = 26;
@@ -146,6 +149,7 @@ impl fmt::Display for Refusal {
             22 => "the part of an image's data that this field names leaves the cache, or is a list that is too long",
             23 => "the pixel data that this field names is of an unknown type",
             24 => "this display name or its language is empty, too long or runs off the end",
+            25 => "the cache has more than 4,096 buckets, or an image with data, which is not written",
             26 => "the position asked for names no bucket, or its count is too large",
             27 => "the flags are above 15, or their numbering is unknown",
             30 => "there is no icon of this name",
@@ -190,6 +194,7 @@ mod tests {
             (Refusal::BAD_IMAGE_DATA, "an image's data"),
             (Refusal::BAD_PIXEL_TYPE, "of an unknown type"),
             (Refusal::BAD_DISPLAY_NAME, "this display name"),
+            (Refusal::NOT_WRITTEN, "more than 4,096 buckets"),
             (Refusal::BAD_POSITION, "the position"),
             (Refusal::BAD_FLAGS, "the flags are above 15"),
             (Refusal::ABSENT, "no icon"),
@@ -203,9 +208,9 @@ mod tests {
 
     #[test]
     fn each_number_has_its_own_sentence() {
-        let numbers = (1..=24).chain([26, 27]).chain(30..=33);
+        let numbers = (1..=27).chain(30..=33);
         let known: HashSet<_> = numbers.map(sentence).collect();
-        assert_eq!(known.len(), 30);
+        assert_eq!(known.len(), 31);
         assert!(!known.contains(&sentence(0)));
     }
 }

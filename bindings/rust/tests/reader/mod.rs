@@ -11,6 +11,8 @@ pub mod notes;
 mod pick;
 #[allow(dead_code)]
 pub mod salvage;
+#[allow(dead_code)]
+pub mod squeeze;
 
 #[allow(unused_imports)]
 pub use pick::{image, pick, Pick};

@@ -48,6 +48,10 @@ pub enum Request {
         out: OsString,
         product: Product,
     },
+    Squeeze {
+        file: OsString,
+        out: OsString,
+    },
 }
 
 /// What is made of that which was saved.
@@ -106,7 +110,7 @@ struct Command {
     request: fn(Given) -> Result<Request, &'static str>,
 }
 
-const COMMANDS: [Command; 8] = [
+const COMMANDS: [Command; 9] = [
     Command {
         name: "check",
         help: help::CHECK,
@@ -162,6 +166,13 @@ const COMMANDS: [Command; 8] = [
         options: &[OUTPUT],
         switches: &[AS_CATALOGUE],
         request: salvage,
+    },
+    Command {
+        name: "squeeze",
+        help: help::SQUEEZE,
+        options: &[OUTPUT],
+        switches: &[],
+        request: squeeze,
     },
 ];
 
@@ -381,6 +392,12 @@ fn salvage(mut given: Given) -> Result<Request, &'static str> {
     };
     let file = only_file(given.operands)?;
     Ok(Request::Salvage { file, out, product })
+}
+
+fn squeeze(mut given: Given) -> Result<Request, &'static str> {
+    let out = output(&mut given)?.ok_or("-o OUT is missing")?;
+    let file = only_file(given.operands)?;
+    Ok(Request::Squeeze { file, out })
 }
 
 fn target(given: &mut Given) -> Result<Target, &'static str> {

@@ -62,7 +62,12 @@ pub fn list(output: &mut Output, file: &OsStr, target: &Target) -> Status {
 }
 
 /// Whether it is a name or a path that runs off the end, only the check tells.
-fn say_cache_refused(output: &mut Output, shown: &str, cache: &[u8], refusal: &Refusal) -> Status {
+pub fn say_cache_refused(
+    output: &mut Output,
+    shown: &str,
+    cache: &[u8],
+    refusal: &Refusal,
+) -> Status {
     if refusal.number != Refusal::CUT_OFF {
         return say_refused(output, shown, refusal);
     }

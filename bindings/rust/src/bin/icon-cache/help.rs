@@ -5,7 +5,7 @@ pub const VERSION: &str = concat!("icon-cache ", env!("CARGO_PKG_VERSION"));
 pub const TOOL: &str = "\
 Checks icon theme caches (icon-theme.cache), looks up icons in them, lists what
 they have, picks images for a size, writes caches from catalogues, lists caches
-as such, and repairs damaged caches.
+as such, repairs damaged caches and squeezes sound ones.
 
 Usage:
   icon-cache check FILE...                 say whether each cache is sound
@@ -16,6 +16,7 @@ Usage:
   icon-cache write CATALOGUE -o FILE       write a cache from a catalogue
   icon-cache catalogue FILE -o OUT         list a cache as a catalogue
   icon-cache salvage FILE -o OUT           write what is sound of a cache
+  icon-cache squeeze FILE -o OUT           write a cache without dead bytes
 
 A directory as FILE stands for the icon-theme.cache in it, and - for standard
 input. THEME is the folder of a theme. After -- no argument is taken for an
@@ -270,3 +271,29 @@ Examples:
 
 Exit status: 0 written, whatever went; 1 refused; 2 a file that can't be read or
 written.";
+
+pub const SQUEEZE: &str = "\
+Writes a sound cache anew without dead bytes, and says what went.
+
+Usage: icon-cache squeeze FILE -o OUT
+
+Gaps go, and so do icons whose name an icon before them has. Equal names, paths
+and image lists are written once. OUT has as many buckets as FILE, is accepted
+by `icon-cache check`, and `icon-cache lookup` shows the same images of each
+icon. A cache that was squeezed stays as it is.
+
+A directory as FILE stands for the icon-theme.cache in it, and - for standard
+input. A cache that `icon-cache check` refuses is refused alike, and so is one
+that has more than 4096 buckets or an image with data, which is not written, and
+one whose parts overlap so that OUT would be longer than 16,777,216 bytes. One
+with a million records on one chain can be made to take days. FILE and OUT may
+be the same.
+
+Options:
+  -o OUT   the cache to write. It takes the place of OUT only when it is stored
+           as a whole; with a refusal OUT stays as it was
+
+Example:
+  icon-cache squeeze pack/icon-theme.cache -o small.cache
+
+Exit status: 0 written, 1 refused, 2 a file that can't be read or written.";

@@ -1,6 +1,6 @@
 //! The tool `icon-cache`: checks caches, looks up icons, lists directories and
 //! icons, picks images for a size, writes caches from catalogues, lists caches as
-//! catalogues, and repairs damaged caches.
+//! catalogues, repairs damaged caches and squeezes sound ones.
 
 mod arguments;
 mod catalogue;
@@ -14,6 +14,7 @@ mod pick;
 mod replace;
 mod salvage;
 mod show;
+mod squeeze;
 
 use arguments::{Misuse, Request};
 use output::{Output, Status};
@@ -49,6 +50,7 @@ fn answer(output: &mut Output, request: Request) -> Status {
         } => catalogue::write(output, &catalogue, buckets, &target),
         Request::Catalogue { file, target } => catalogue::list(output, &file, &target),
         Request::Salvage { file, out, product } => salvage::salvage(output, &file, &out, &product),
+        Request::Squeeze { file, out } => squeeze::squeeze(output, &file, &out),
     }
 }
 
