@@ -60,13 +60,13 @@ examples =
     squeezes withoutOat (lent 110) (writeIs 0 0 110) withoutOat ∷
     -- and with it the list that it alone has
     squeezes (patched 48 (0 ∷ 0 ∷ 0 ∷ 126 ∷ []) (patched 118 hen farm) ++ (0 ∷ 0 ∷ 0 ∷ 1 ∷ 0 ∷ 0 ∷ 0 ∷ 2 ∷ 0 ∷ 0 ∷ 0 ∷ 0 ∷ [])) (lent 110) (writeIs 0 0 110) withoutOat ∷
-    -- the second path is "cow", so the name uses its bytes; it is "at", the tail of a name, so it
-    -- is written out
+    -- the second path is "cow", so the name uses its bytes; in the next it is "at", the tail of a
+    -- name, and is written out
     squeezes (patched 107 (122 ∷ []) farm) (lent 123) (writeIs 0 0 123)
     (patched 35 (115 ∷ []) (patched 47 (119 ∷ []) (patched 59 (111 ∷ []) (take 111 farm))) ++ cow ++ (0 ∷ []) ++ hen ++ (0 ∷ []) ++ oat ++ (0 ∷ [])) ∷
     squeezes (patched 107 (119 ∷ []) farm) (lent 126) (writeIs 0 0 126) (patched 111 (97 ∷ 116 ∷ []) farm) ∷
     -- refused: a loop, cut off; the image that hen and oat share has image data, and cow's second
-    -- has; a byte too few
+    -- has
     refused looped 9 12 16 ∷
     refused (take 125 farm) 9 17 56 ∷
     refused (patched 75 (1 ∷ []) farm) 126 25 68 ∷
@@ -74,6 +74,7 @@ examples =
     refused (patched 95 (1 ∷ []) (patched 75 (1 ∷ []) farm)) 9 25 68 ∷
     -- the later hen has a list of its own, whose image has data: it is judged though it goes
     refused (patched 48 (0 ∷ 0 ∷ 0 ∷ 126 ∷ []) (patched 118 hen farm) ++ (0 ∷ 0 ∷ 0 ∷ 1 ∷ 0 ∷ 0 ∷ 0 ∷ 1 ∷ 0 ∷ 0 ∷ 0 ∷ 1 ∷ [])) 138 25 130 ∷
+    -- a byte too few
     refused farm 125 19 0 ∷
     []
 

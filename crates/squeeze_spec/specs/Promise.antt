@@ -2,13 +2,14 @@
 -- the old one did and stays as it is when squeezed.
 use Prim.Native.Nat.{ℕ, _≤_, _<_}
 use mathlib.Core.Path.{_≡_}
-use mathlib.Core.List.{List, _++_}
+use mathlib.Core.List.{List, _++_, map}
 use lib.ListN.{length, drop}
 use Rattle.format.specs.Header.{buckets, directories, pathOf}
+use Rattle.format.specs.Record.{nameOf}
 use Rattle.format.specs.Chain.{allRecords}
 use Rattle.format.specs.Call.{lookup, lookupWords}
 use Rattle.format.specs.declared.Reading.the-variants.{Short}
-use Rattle.catalogue.specs.Catalogue.{Good}
+use Rattle.catalogue.specs.Catalogue.{Good, NoneTwice}
 use Rattle.catalogue.specs.Fields.{AreBytes}
 use Rattle.catalogue.specs.LaidOut.{Lays}
 use Rattle.catalogue.specs.Serves.{Serves}
@@ -25,14 +26,15 @@ pub record SameLookup (s t name : List ℕ) : Type 0 where
   pub images : (room : ℕ) → lookup t name room .images ≡ lookup s name room .images
   pub words : (ws : List ℕ) → lookupWords t name ws ≡ lookupWords s name ws
 
--- of a cache s that may be squeezed, and its squeezed cache t, which lays out what s holds: each
--- record of it bears its own name once
+-- of a cache s that may be squeezed, and its squeezed cache t, which lays out what s holds: no two
+-- of its records bear one name, so all would stay
 pub record Faithful (s t : List ℕ) : Type 0 where
   pub good : Good (contents s)
   pub lays : Lays t (contents s) (buckets s) (packedPlaces (contents s) (buckets s))
   pub serves : Serves t (contents s) (buckets s) (packedPlaces (contents s) (buckets s))
   pub lists : listed t ≡ contents s
-  pub names-once : keptRecords t ≡ allRecords Short t
+  pub names-once : NoneTwice (map (nameOf t) (allRecords Short t))
+  pub all-stay : keptRecords t ≡ allRecords Short t
   pub same-buckets : buckets t ≡ buckets s
   pub same-directories : directories t ≡ directories s
   pub same-paths : (i : ℕ) → i < directories s → pathOf t i ≡ pathOf s i

@@ -18,7 +18,7 @@ use Rattle.catalogue.specs.Laws.Elements.{each-map}
 use Rattle.catalogue.specs.Laws.Rising.{Rises}
 use Rattle.catalogue.specs.Laws.Laid.{laid}
 use Rattle.catalogue.specs.Laws.Kept.{path-stands}
-use Rattle.catalogue.specs.Laws.Serves.{serves}
+use Rattle.catalogue.specs.Laws.Serves.{lays-accepted, serves}
 use Rattle.catalogue.specs.Laws.Listed.{listed-back}
 use Rattle.catalogue.specs.Laws.Call.{answered, leaves-written, refused}
 use Rattle.squeeze_spec.specs.Packed.{packedPlaces, packedSize}
@@ -26,7 +26,7 @@ use Rattle.squeeze_spec.specs.Squeezed.{keptRecords, contents, squeezed}
 use Rattle.squeeze_spec.specs.Call.{dataFault, squeezedSize, squeezeFault, squeeze, squeezeLeaves}
 use Rattle.squeeze_spec.specs.Promise.{Faithful, Stays, SqueezePromise}
 use Rattle.squeeze_spec.specs.Laws.Packed.{packed-length, packed-lays}
-use Rattle.squeeze_spec.specs.Laws.Kept.{kept-picked}
+use Rattle.squeeze_spec.specs.Laws.Kept.{kept-picked, kept-apart}
 use Rattle.squeeze_spec.specs.Laws.Contents.{contents-icons, contents-paths, path-count, some-bucket, contents-good, contents-rise}
 use Rattle.squeeze_spec.specs.Laws.Lookups.{same-lookups}
 use Rattle.squeeze_spec.specs.Laws.Again.{all-stay, contents-back}
@@ -57,13 +57,17 @@ module _ {s : List ℕ} {room : ℕ} (right : Right s room) (small : AreBytes s)
   rises : Rises (packedPlaces c b .record-at) (length (c .icons))
   rises i j l g = omega arith
 
+  stay : keptRecords t ≡ allRecords Short t
+  stay = all-stay good lays some rises (contents-rise (right .accepted))
+
   pub faithful : Faithful s t
   faithful = record {
     good = good;
     lays = lays;
     serves = serves good lays some;
     lists = listed-back good lays some rises;
-    names-once = all-stay good lays some rises (contents-rise (right .accepted));
+    names-once = rw stay at (kept-apart (lays-accepted good lays some));
+    all-stay = stay;
     same-buckets = laid good lays .buckets-are;
     same-directories = laid good lays .directories-are ∙ path-count s;
     same-paths = λ i l.

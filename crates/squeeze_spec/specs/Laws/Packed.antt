@@ -1,4 +1,4 @@
--- A packed cache lays out its catalogue, and so serves it.
+-- A packed cache lays out its catalogue.
 use Prim.Native.Nat.{ℕ, _+_, _≤_, _<_}
 use mathlib.Core.Path.{_≡_, refl, ap, _∙_}
 use mathlib.Core.List.{List, []}
@@ -6,11 +6,9 @@ use native.Mathlib.Omega.{arith}
 use lib.ListN.{length, List·getD-append, List·getD-map}
 use lib.Seq.{getD-append-add}
 use Rattle.format.specs.Layout.{mostBytes}
-use Rattle.catalogue.specs.Catalogue.{Icon, Catalogue, Good, names, iconIs}
+use Rattle.catalogue.specs.Catalogue.{Icon, Catalogue, names, iconIs}
 use Rattle.catalogue.specs.LaidOut.{nthPath, nthIcon, Lays, stringBytes}
-use Rattle.catalogue.specs.Serves.{Serves}
 use Rattle.catalogue.specs.Laws.Arranged.{Placed, Arranges, arranged-length, arranged-lays}
-use Rattle.catalogue.specs.Laws.Serves.{serves}
 use Rattle.squeeze_spec.specs.Uses.{placeOf}
 use Rattle.squeeze_spec.specs.Packed.{nthList, nthString, stringPart, packedLists, packedStrings, packedPlaces, packedSize, packed}
 use Rattle.squeeze_spec.specs.Laws.Uses.{use-same, stored-stands, stored-inside}
@@ -62,6 +60,3 @@ module _ (c : Catalogue) (b : ℕ) where
   pub packed-lays : packedSize c b ≤ mostBytes → Lays (packed c b) c b (packedPlaces c b)
   unfolding packed
   packed-lays h = arranged-lays c b (packedPlaces c b) (packedLists c) (packedStrings c) arranges (omega (arith, packed-length))
-
-  pub packed-serves : Good c → 0 < b → packedSize c b ≤ mostBytes → Serves (packed c b) c b (packedPlaces c b)
-  packed-serves good some h = serves good (packed-lays h) some
