@@ -127,7 +127,7 @@ fn compare_numbers(a: u32, b: u32) -> Ordering
     }
 }
 
-// How the key of `a` compares with that of `b`. The keys of one offset are not read.
+// How the key of `a` compares with that of `b`. Where both are one offset, no key is read.
 pub fn compare(s: &[u8], kind: Kind, a: u32, b: u32) -> Ordering
     ensures { λ r. ⌜ r ≡ order (keyAt kind (now (s .entry)) a) (keyAt kind (now (s .entry)) b) ⌝ }
 {

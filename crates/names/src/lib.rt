@@ -1,5 +1,5 @@
-// Whether a key was met before: a string, a name or an offset, among as many as the caller lends
-// words for. Those met are kept as an index: their offsets, in rising order of the keys, so that
+// Whether a key was met before: a string, a name, an image list or an offset, among as many as the
+// caller lends words for. Those met are kept as an index: their offsets, in rising order of the keys, so that
 // one is found by halving.
 ghost use mathlib.Core.Path.{_≡_};
 ghost use mathlib.Core.List.{List};

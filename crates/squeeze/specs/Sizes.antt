@@ -6,7 +6,7 @@ use lib.ListN.{length}
 use Rattle.squeeze_spec.specs.Packed.{packedLists, packedStrings}
 use Rattle.squeeze_spec.specs.Squeezed.{contents}
 use Rattle.tables.specs.declared.Tables.{Tables}
-use Rattle.squeeze_names.specs.Repeated.{Marked}
+use Rattle.squeeze_names.specs.Repeated.{RepeatsMarked}
 use Rattle.squeeze.specs.declared.Sizes.{Sizes}
 
 pub record SizesOf (s : List ℕ) (x : Sizes) : Type 0 where
@@ -19,7 +19,7 @@ pub record SizesOf (s : List ℕ) (x : Sizes) : Type 0 where
 pub record Lent (s index places repeated : List ℕ) : Type 0 where
   pub index-wide : length index ≡ 65536
   pub places-wide : length places ≡ 65536
-  pub marked : Marked s repeated
+  pub marked : RepeatsMarked s repeated
 
 -- how many bytes all parts have
 abbrev pub sizeOf : Tables → Sizes → ℕ

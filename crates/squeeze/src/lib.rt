@@ -19,6 +19,7 @@ use judging::refusal;
 use passes::head;
 use squeeze_data::image_data;
 use squeeze_lists::lists;
+use squeeze_names::mark_repeated;
 use squeeze_paths::paths;
 use squeeze_records::records;
 use tables::Tables;
@@ -42,6 +43,7 @@ fn measure(
     requires { ⌜ Sound (now cache) t × Lent (now cache) (now index) (now places) (now repeated) ⌝ }
     ensures { λ r. ⌜ SizesOf (now (cache .entry)) r ⌝ }
 {
+    // The pass that puts the paths measures them too: lent no room, it puts nothing.
     let mut none: [u8; 1] = [0; 1];
     let texts = paths(cache, t, index, places, &mut none, 0, 0);
     let named = squeeze_texts::measure(cache, t, index, places, repeated, texts);
@@ -54,7 +56,8 @@ fn measure(
 }
 
 // Puts the squeezed cache into `out`, which has room for it: the lists and a table of where they
-// are, the paths, the tables, and then the records and the names.
+// are, the directory list and the paths, the header and an empty hash, and then the records and the
+// names.
 fn fill(
     cache: &[u8],
     t: Tables,
@@ -69,14 +72,26 @@ fn fill(
 {
     let icons = sizes.icons;
     let buckets = t.buckets as usize;
-    let table = 16 + 4 * buckets + 8 * icons;
-    let first = 16 + 4 * buckets + 12 * icons;
-    let folders = first + sizes.lists;
-    let strings = folders + 4 + 4 * t.directories as usize;
-    head::clear(out, table, icons);
-    lists(cache, t, index, places, repeated, out, table, first, icons);
-    let texts = paths(cache, t, index, places, out, folders, strings);
-    head::tables(out, buckets, folders);
+    // A cell for each icon says where its list is. The cells take the last third of the records' room:
+    // no record reaches the cell of the next, which is read before it is written over.
+    let cells = 16 + 4 * buckets + 8 * icons;
+    let lists_at = 16 + 4 * buckets + 12 * icons;
+    let directories_at = lists_at + sizes.lists;
+    let strings_at = directories_at + 4 + 4 * t.directories as usize;
+    head::clear(out, cells, icons);
+    lists(
+        cache,
+        t,
+        index,
+        places,
+        repeated,
+        out,
+        cells,
+        lists_at,
+        icons,
+    );
+    let texts = paths(cache, t, index, places, out, directories_at, strings_at);
+    head::tables(out, buckets, directories_at);
     records(cache, t, index, places, repeated, out, texts, icons);
 }
 
@@ -140,6 +155,6 @@ pub fn squeeze(cache: &[u8], squeezed: &mut [u8]) -> WriteAnswer
     let mut index: [u32; 65536] = [0; 65536];
     let mut places: [u32; 65536] = [0; 65536];
     let mut repeated: [u32; 30720] = [0; 30720];
-    squeeze_names::repeated(cache, t, &mut index, &mut repeated);
+    mark_repeated(cache, t, &mut index, &mut repeated);
     rewrite(cache, t, &mut index, &mut places, &repeated, squeezed)
 }

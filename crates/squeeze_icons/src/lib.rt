@@ -10,7 +10,7 @@ ghost use Rattle.tables.specs.Tables.{Sound};
 ghost use Rattle.squeeze_spec.specs.Uses.{isFirst};
 ghost use Rattle.squeeze_spec.specs.Squeezed.{nthName, contents};
 ghost use Rattle.squeeze_order.specs.Cursor.{Real, At};
-ghost use Rattle.squeeze_names.specs.Repeated.{Marked};
+ghost use Rattle.squeeze_names.specs.Repeated.{RepeatsMarked};
 ghost use Rattle.squeeze_icons.specs.Staying.{Seeking, Staying};
 use bigendian::u32_at;
 use keys::Kind;
@@ -61,25 +61,25 @@ fn named_before(cache: &[u8], t: Tables, at: Cursor) -> bool
 }
 
 // Whether the record at hand stays: by its mark, or by its chain where there is no word for it.
-fn stays(cache: &[u8], t: Tables, marks: &[u32], at: Cursor) -> bool
-    requires { ⌜ Sound (now cache) t × Marked (now cache) (now marks) × At (now cache) at × Real (at .«record») ⌝ }
+fn stays(cache: &[u8], t: Tables, repeated: &[u32], at: Cursor) -> bool
+    requires { ⌜ Sound (now cache) t × RepeatsMarked (now cache) (now repeated) × At (now cache) at × Real (at .«record») ⌝ }
     ensures { λ r. ⌜ r ≡ isFirst (nthName (now (cache .entry))) (at .number) ⌝ }
 {
     let number = at.number;
-    if number / 32 < marks.len() {
-        return !is_marked(marks, number);
+    if number / 32 < repeated.len() {
+        return !is_marked(repeated, number);
     }
     !named_before(cache, t, at)
 }
 
 // The first icon from the record at hand on, with number `icon`.
-fn seek(cache: &[u8], t: Tables, marks: &[u32], icon: usize, cursor: Cursor) -> Icons
-    requires { ⌜ Sound (now cache) t × Marked (now cache) (now marks) × Seeking (now cache) icon cursor ⌝ }
+fn seek(cache: &[u8], t: Tables, repeated: &[u32], icon: usize, cursor: Cursor) -> Icons
+    requires { ⌜ Sound (now cache) t × RepeatsMarked (now cache) (now repeated) × Seeking (now cache) icon cursor ⌝ }
     ensures { λ r. ⌜ Staying (now (cache .entry)) r × (r .icon ≡ icon) ⌝ }
 {
     let mut at = cursor;
     while at.record != 0xFFFF_FFFF {
-        if stays(cache, t, marks, at) {
+        if stays(cache, t, repeated, at) {
             return Icons { icon, at };
         }
         at = squeeze_order::next(cache, t, at);
@@ -88,32 +88,32 @@ fn seek(cache: &[u8], t: Tables, marks: &[u32], icon: usize, cursor: Cursor) -> 
 }
 
 // The first icon.
-pub fn first(cache: &[u8], t: Tables, marks: &[u32]) -> Icons
-    requires { ⌜ Sound (now cache) t × Marked (now cache) (now marks) ⌝ }
+pub fn first(cache: &[u8], t: Tables, repeated: &[u32]) -> Icons
+    requires { ⌜ Sound (now cache) t × RepeatsMarked (now cache) (now repeated) ⌝ }
     ensures { λ r. ⌜ Staying (now (cache .entry)) r × (r .icon ≡ 0) ⌝ }
 {
     let cursor = squeeze_order::first(cache, t);
-    seek(cache, t, marks, 0, cursor)
+    seek(cache, t, repeated, 0, cursor)
 }
 
 // The icon behind the one at hand.
-pub fn next(cache: &[u8], t: Tables, marks: &[u32], icons: Icons) -> Icons
-    requires { ⌜ Sound (now cache) t × Marked (now cache) (now marks) × Staying (now cache) icons × Real (icons .at .«record») ⌝ }
+pub fn next(cache: &[u8], t: Tables, repeated: &[u32], icons: Icons) -> Icons
+    requires { ⌜ Sound (now cache) t × RepeatsMarked (now cache) (now repeated) × Staying (now cache) icons × Real (icons .at .«record») ⌝ }
     ensures { λ r. ⌜ Staying (now (cache .entry)) r × (r .icon ≡ icons .icon + 1) ⌝ }
 {
     let at = icons.at;
     let cursor = squeeze_order::next(cache, t, at);
-    seek(cache, t, marks, icons.icon + 1, cursor)
+    seek(cache, t, repeated, icons.icon + 1, cursor)
 }
 
 // The icon with number `n`.
-pub fn nth(cache: &[u8], t: Tables, marks: &[u32], n: usize) -> Icons
-    requires { ⌜ Sound (now cache) t × Marked (now cache) (now marks) × (n ≤ length (contents (now cache) .icons)) ⌝ }
+pub fn nth(cache: &[u8], t: Tables, repeated: &[u32], n: usize) -> Icons
+    requires { ⌜ Sound (now cache) t × RepeatsMarked (now cache) (now repeated) × (n ≤ length (contents (now cache) .icons)) ⌝ }
     ensures { λ r. ⌜ Staying (now (cache .entry)) r × (r .icon ≡ n) ⌝ }
 {
-    let mut icon = first(cache, t, marks);
+    let mut icon = first(cache, t, repeated);
     while icon.icon < n {
-        icon = next(cache, t, marks, icon);
+        icon = next(cache, t, repeated, icon);
     }
     icon
 }

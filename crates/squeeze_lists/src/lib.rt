@@ -7,7 +7,7 @@ ghost use Prim.Native.Nat.{ℕ, _+_, _*_, _^_, _≤_, _<_};
 ghost use lib.ListN.{length};
 ghost use Rattle.format.specs.Number.{be};
 ghost use Rattle.tables.specs.Tables.{Sound};
-ghost use Rattle.squeeze_names.specs.Repeated.{Marked};
+ghost use Rattle.squeeze_names.specs.Repeated.{RepeatsMarked};
 ghost use Rattle.squeeze_sizes.specs.Counting.{ListAt};
 ghost use Rattle.squeeze_lists.specs.Shares.{iconCount, Shares, Sharing, Stores, Filled, Begun};
 use bigendian::put_u32;
@@ -29,12 +29,19 @@ pub struct Shared {
     pub end: usize,
 }
 
-// Up to which icon lists are stored after that of `icon`, which was stored before.
-fn onward(until: usize, icon: usize) -> usize
+// How far the lists are stored after that of `icon`, which was stored before.
+fn onward(shared: Shared, icon: usize) -> Shared
     requires { ⌜ icon < 2 ^ 62 ⌝ }
-    ensures { λ r. ⌜ ((until ≡ icon → r ≡ icon + 1) × ((until ≡ icon → ⊥) → r ≡ until)) ⌝ }
+    ensures { λ r. ⌜ (r .entries ≡ shared .entries) × (r .end ≡ shared .end) × (shared .until ≡ icon → r .until ≡ icon + 1) × ((shared .until ≡ icon → ⊥) → r .until ≡ shared .until) ⌝ }
 {
-    if until == icon { icon + 1 } else { until }
+    if shared.until == icon {
+        return Shared {
+            until: icon + 1,
+            entries: shared.entries,
+            end: shared.end,
+        };
+    }
+    shared
 }
 
 // Stores the list of `icon`, which stands at `list`, as a new one, and where it is into its cell.
@@ -85,23 +92,14 @@ fn share(
 {
     let until = shared.until;
     let entries = shared.entries;
-    let end = shared.end;
     if u32_at(out, cell) != 0xFFFF_FFFF {
-        return Shared {
-            until: onward(until, icon),
-            entries,
-            end,
-        };
+        return onward(shared, icon);
     }
     let spot = find(cache, Kind::Images, index, entries, list);
     match spot {
         Spot::Found(e) => {
             put_u32(out, cell, places[e]);
-            Shared {
-                until: onward(until, icon),
-                entries,
-                end,
-            }
+            onward(shared, icon)
         }
         Spot::Missing(i) => {
             if until == icon {
@@ -127,7 +125,7 @@ fn block(
     from: usize,
     end: usize,
 ) -> Shared
-    requires { ⌜ Sound (now cache) t × (0 < length (now index)) × (length (now index) ≤ length (now places)) × (length (now places) < 2 ^ 32) × Marked (now cache) (now repeated) ⌝ }
+    requires { ⌜ Sound (now cache) t × (0 < length (now index)) × (length (now index) ≤ length (now places)) × (length (now places) < 2 ^ 32) × RepeatsMarked (now cache) (now repeated) ⌝ }
     requires { ⌜ Begun (now cache) (now out) table from end ⌝ }
     ensures { λ r. ⌜ ((lent : List ℕ) (at : ℕ) → Filled (now (cache .entry)) lent (now (out .entry)) table at from end → Filled (now (cache .entry)) lent (now (out .exit)) table at (r .until) (r .end)) × (from < iconCount (now (cache .entry)) → from < r .until) ⌝ }
 {
@@ -161,7 +159,7 @@ pub fn lists(
     at: usize,
     icons: usize,
 )
-    requires { ⌜ Sound (now cache) t × (0 < length (now index)) × (length (now index) ≤ length (now places)) × (length (now places) < 2 ^ 32) × Marked (now cache) (now repeated) ⌝ }
+    requires { ⌜ Sound (now cache) t × (0 < length (now index)) × (length (now index) ≤ length (now places)) × (length (now places) < 2 ^ 32) × RepeatsMarked (now cache) (now repeated) ⌝ }
     requires { ⌜ (icons ≡ iconCount (now cache)) × Begun (now cache) (now out) table 0 at ⌝ }
     ensures { λ _. ⌜ ((lent : List ℕ) (place : ℕ) → Filled (now (cache .entry)) lent (now (out .entry)) table place 0 at → ((end : ℕ) × Filled (now (cache .entry)) lent (now (out .exit)) table place icons end)) ⌝ }
 {

@@ -23,8 +23,8 @@ use Rattle.squeeze_names.specs.declared.Block.{Block}
 
 -- i is marked, if b says so, and else nothing changes
 pub record Noted (b : Bool) (old new : List ℕ) (i : ℕ) : Type 0 where
-  pub is : b ≡ true → Marks old new i
-  pub not : b ≡ false → new ≡ old
+  pub noted : b ≡ true → Marks old new i
+  pub kept : b ≡ false → new ≡ old
 
 -- the n numbers from a on have the marks that they had, and those more; no other mark changes
 pub record Adds (old new : List ℕ) (a n : ℕ) (more : ℕ → Bool) : Type 0 where
@@ -46,6 +46,10 @@ pub record TakenIn (s : List ℕ) (f a : ℕ) (index old new : List ℕ) (b : Bl
   pub known : Represents (keyAt Ended s) index (b .entries) (seen (nameAlong s f) (b .names))
   pub marks : Adds old new a (b .names) (amongBefore (nameAlong s f))
 
--- those records are marked that have a name of one before them, as far as there are words for them
-abbrev pub Marked : List ℕ → List ℕ → Type 0
-Marked s m = (i : ℕ) → i < length (allRecords Short s) → i / 32 < length m → marked m i ≡ not (isFirst (nthName s) i)
+-- the i-th record in the check's order has a name of one before it
+abbrev pub comesAgain : List ℕ → ℕ → Bool
+comesAgain s i = not (isFirst (nthName s) i)
+
+-- those records are marked, as far as there are words for them
+abbrev pub RepeatsMarked : List ℕ → List ℕ → Type 0
+RepeatsMarked s m = (i : ℕ) → i < length (allRecords Short s) → i / 32 < length m → marked m i ≡ comesAgain s i

@@ -12,7 +12,7 @@ ghost use Rattle.names.specs.Index.{Represents};
 ghost use Rattle.marks.specs.Marks.{marked};
 ghost use Rattle.repeats.specs.Along.{InsideAlong, nameAlong};
 ghost use Rattle.tables.specs.Tables.{Sound};
-ghost use Rattle.squeeze_names.specs.Repeated.{Noted, Adds, TakenIn, amongBefore, Marked};
+ghost use Rattle.squeeze_names.specs.Repeated.{Noted, Adds, TakenIn, amongBefore, RepeatsMarked};
 use bigendian::u32_at;
 use gathering::repeated::count;
 use keys::Kind;
@@ -159,9 +159,9 @@ fn chain(
 
 // Marks all that have a name of one before them, as far as there are words for them. `index` may
 // hold anything.
-pub fn repeated(cache: &[u8], t: Tables, index: &mut [u32], marks: &mut [u32])
+pub fn mark_repeated(cache: &[u8], t: Tables, index: &mut [u32], marks: &mut [u32])
     requires { ⌜ Sound (now cache) t × (16384 ≤ length (now index)) ⌝ }
-    ensures { λ _. ⌜ (((i : ℕ) → marked (now (marks .entry)) i ≡ false) → Marked (now (cache .entry)) (now (marks .exit))) ⌝ }
+    ensures { λ _. ⌜ (((i : ℕ) → marked (now (marks .entry)) i ≡ false) → RepeatsMarked (now (cache .entry)) (now (marks .exit))) ⌝ }
 {
     let mut number = 0;
     let mut bucket = 0;

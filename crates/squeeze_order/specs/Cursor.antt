@@ -12,7 +12,7 @@ use Rattle.squeeze_spec.specs.Squeezed.{nthRecord}
 use Rattle.squeeze_spec.specs.Laws.Order.{chainLength, StandsAt}
 use Rattle.squeeze_order.specs.declared.Cursor.{Cursor}
 
--- a field that names r leads to a record
+-- r is an offset, not the end value
 abbrev pub Real : ℕ → Type 0
 Real r = r ≡ endValue → ⊥
 

@@ -15,7 +15,7 @@ use Rattle.squeeze_spec.specs.Laws.Order.{chainLength, StandsAt, chain-lengths,
 use Rattle.squeeze_order.specs.Cursor.{Real, Before, Here}
 
 module _ {s : List ℕ} (acc : Accepted Short s) where
-  -- there are fewer records than bytes
+  -- there are no more records than bytes
   pub records-few : length (allRecords Short s) ≤ length s
   records-few = omega (arith, order-length acc, demand3 Short s .few acc (chainLength s) (chain-lengths acc))
 

@@ -1,10 +1,9 @@
-// The records of a squeezed cache, each appended to the chain of its bucket, and its names as
+// The records of a squeezed cache, each appended to the chain of its bucket, and the names as
 // strings. The icons come bucket by bucket, so that only the bucket of the last one is remembered.
 ghost use mathlib.Core.Path.{_≡_};
 ghost use mathlib.Core.List.{List};
 ghost use Prim.Native.Nat.{ℕ, _+_, _*_, _^_, _≤_, _<_};
 ghost use lib.ListN.{length};
-ghost use Rattle.format.specs.Bytes.{put};
 ghost use Rattle.format.specs.Header.{buckets, directories};
 ghost use Rattle.squeeze_paths.specs.Pathed.{stringsUpTo};
 ghost use Rattle.format.specs.Words.{Accepted};
@@ -12,7 +11,7 @@ ghost use Rattle.format.specs.declared.Reading.the-variants.{Short};
 ghost use Rattle.catalogue.specs.Written.{recordsBegin};
 ghost use Rattle.squeeze_texts.specs.Named.{PathsKnown};
 ghost use Rattle.tables.specs.Tables.{Sound};
-ghost use Rattle.squeeze_names.specs.Repeated.{Marked};
+ghost use Rattle.squeeze_names.specs.Repeated.{RepeatsMarked};
 ghost use Rattle.squeeze_icons.specs.Staying.{IconAt};
 ghost use Rattle.squeeze_records.specs.Recorded.{leads, strings, table, recorded, Ready, Recorded, Recording};
 ghost use Rattle.squeeze_records.specs.Recorded.{icons as iconsIn};
@@ -87,7 +86,7 @@ pub fn records(
     texts: Texts,
     icons: usize,
 )
-    requires { ⌜ Sound (now cache) t × Marked (now cache) (now repeated) × (texts .entries ≤ length (now index)) × (texts .entries ≤ length (now places)) ⌝ }
+    requires { ⌜ Sound (now cache) t × RepeatsMarked (now cache) (now repeated) × (texts .entries ≤ length (now index)) × (texts .entries ≤ length (now places)) ⌝ }
     requires { ⌜ PathsKnown (now cache) (now index) (now places) (texts .entries) (strings (now cache)) × (texts .end ≡ strings (now cache) + length (stringsUpTo (now cache) (directories (now cache)))) ⌝ }
     requires { ⌜ (icons ≡ iconsIn (now cache)) × Ready (now cache) (now out) ⌝ }
     ensures { λ _. ⌜ now (out .exit) ≡ recorded (now (cache .entry)) (now (out .entry)) icons ⌝ }

@@ -8,7 +8,7 @@ ghost use Rattle.format.specs.String.{extent, isWhole};
 ghost use Rattle.format.specs.Words.{Accepted};
 ghost use Rattle.format.specs.declared.Reading.the-variants.{Short};
 ghost use Rattle.tables.specs.Tables.{Sound};
-ghost use Rattle.squeeze_names.specs.Repeated.{Marked};
+ghost use Rattle.squeeze_names.specs.Repeated.{RepeatsMarked};
 ghost use Rattle.squeeze_texts.specs.Named.{NameAt, PathsKnown, Stores, Measures};
 use bigendian::u32_at;
 use keys::Kind;
@@ -68,7 +68,7 @@ pub fn measure(
     repeated: &[u32],
     texts: Texts,
 ) -> Sizes
-    requires { ⌜ Sound (now cache) t × Marked (now cache) (now repeated) ⌝ }
+    requires { ⌜ Sound (now cache) t × RepeatsMarked (now cache) (now repeated) ⌝ }
     requires { ⌜ (texts .entries ≤ length (now index)) × (texts .entries ≤ length (now places)) × (texts .end < 2 ^ 32) ⌝ }
     ensures { λ r. ⌜ Measures (now (cache .entry)) (now (index .entry)) (now (places .entry)) texts r ⌝ }
 {

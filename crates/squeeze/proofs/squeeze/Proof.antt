@@ -59,9 +59,9 @@ rewrite-requires c κs =
     let read = few .before .before in (
       sound read,
       record {
-        index-wide = omega (arith, length-replicate {A = ℕ} 65536 0, marked .repeated2 .kept);
+        index-wide = omega (arith, length-replicate {A = ℕ} 65536 0, marked .mark-repeated .kept);
         places-wide = length-replicate {A = ℕ} 65536 0;
-        marked = marked .repeated2 .ensures (zeros-unmarked 30720);
+        marked = marked .mark-repeated .ensures (zeros-unmarked 30720);
       },
       omega (arith, same-buckets (read .read .ensures), few .if2 .left),
       sym (same-number (judged .image-data .ensures)) ∙ plain .if3 .left,

@@ -28,7 +28,7 @@ use Rattle.squeeze_paths.specs.Pathed.{stringsUpTo, tableUpTo, pathEntry, Pathe
 use Rattle.squeeze_paths.specs.declared.Texts.{Texts}
 use Rattle.squeeze_texts.specs.Named.{stringOf}
 use Rattle.squeeze_lists.specs.Cells.{cell, cells}
-use Rattle.squeeze_lists.specs.Shares.{listsTo, stored, Filled}
+use Rattle.squeeze_lists.specs.Shares.{listsTo, Filled}
 use Rattle.squeeze_lists.specs.Laws.Cells.{cell-stored, cell-unstored, cell-passed, cell-ahead}
 use Rattle.squeeze_lists.specs.Laws.Table.{cells-length}
 use Rattle.squeeze_records.specs.Recorded.{places, strings, icons, table, recorded, Ready}

@@ -8,10 +8,10 @@ use Rattle.squeeze_icons.proofs.nth.Statement.{statement}
 use Rattle.squeeze_icons.proofs.nth.Tie as tie
 
 abbrev Inv-loop : tie.InvT-loop
-Inv-loop cache t marks n icon₀ icon = Staying cache icon × (icon .icon ≤ n)
+Inv-loop cache t repeated n icon₀ icon = Staying cache icon × (icon .icon ≤ n)
 
 abbrev μ-loop : tie.MeasureT-loop
-μ-loop cache t marks n icon₀ icon = n - icon .icon
+μ-loop cache t repeated n icon₀ icon = n - icon .icon
 
 next-requires : tie.Need-next-requires Inv-loop μ-loop
 next-requires c κs =

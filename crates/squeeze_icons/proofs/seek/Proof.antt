@@ -13,10 +13,10 @@ use Rattle.squeeze_icons.proofs.seek.Statement.{statement}
 use Rattle.squeeze_icons.proofs.seek.Tie as tie
 
 abbrev Inv-loop : tie.InvT-loop
-Inv-loop cache t marks icon at₀ at = Seeking cache icon at
+Inv-loop cache t repeated icon at₀ at = Seeking cache icon at
 
 abbrev μ-loop : tie.MeasureT-loop
-μ-loop cache t marks icon at₀ at = length (allRecords Short cache) - at .number
+μ-loop cache t repeated icon at₀ at = length (allRecords Short cache) - at .number
 
 stays-requires : tie.Need-stays-requires Inv-loop μ-loop
 stays-requires c κs =

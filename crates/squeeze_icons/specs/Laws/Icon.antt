@@ -34,7 +34,7 @@ kept-few s (suc n) = go (isFirst (nthName s) n) refl (kept-few s n)
     go true e before = omega (arith, ap length (stored-first (nthName s) one n e) ∙ length-append (keptUpTo s n) (one n))
     go false e before = omega (arith, ap length (stored-later (nthName s) one n e))
 
--- there are no more icons than records
+-- there are no more icons than bytes
 pub icons-few : {s : List ℕ} → Accepted Short s → length (contents s .icons) ≤ length s
 unfolding keptRecords
 icons-few {s} acc = omega (arith, icon-count s, kept-few s (length (allRecords Short s)), records-few acc)

@@ -8,8 +8,7 @@ use denote.Ref.{now}
 use Rattle.format.specs.Number.{be}
 use Rattle.names.specs.declared.Spot.the-variants.{Found, Missing}
 use Rattle.squeeze_index.specs.Laws.Maps.{found-below, missing-within, found-entry, missing-between}
-use Rattle.squeeze_lists.specs.Shares.{Shares}
-use Rattle.squeeze_lists.specs.Laws.Shares.{put-at, cell-is, cell-inside, shares-set, shares-found, shares-left, shares-left-behind, new-inside, new-short, shares-stored}
+use Rattle.squeeze_lists.specs.Laws.Shares.{shared-is, put-at, cell-is, cell-inside, shares-set, shares-found, shares-left, shares-left-behind, new-inside, new-short, shares-stored}
 use Rattle.squeeze_lists.proofs.share.Statement.{statement}
 use Rattle.squeeze_lists.proofs.share.Tie as tie
 
@@ -52,15 +51,18 @@ returns c lent table at first h e =
     let read = other .before in
     let s = start read in
     let cell = read .u32-at .ensures ∙ ap (be 4 (now (s .args .out))) e ∙ cell-is h (s .pre .0 .0) (s .pre .0 .4) in
-    shares-set h (s .pre .0 .0) (s .pre .0 .4) (λ z. other .if1 .taken (cell ∙ z)) (c .onward .ensures .0) (c .onward .ensures .1)
+    let o = c .onward .ensures in
+    rw (shared-is (c .onward .result) (o .0) (o .1)) (shares-set h (s .pre .0 .0) (s .pre .0 .4) (λ z. other .if1 .taken (cell ∙ z)) (o .2) (o .3))
 
 returns-3 : tie.Need-returns-3
 returns-3 c lent table at first h e =
     let put = c .before .before .before in
     let told = put .before .before .before in
     let s = start (read (found told)) in
-    shares-found h (s .pre .0 .0) (s .pre .0 .4) (below told) (found-entry _ _ _ _ (is-found told) (found told .find .ensures .1 (h .known .known .rising)))
-    (put-at _ _ e (put .put-u32 .ensures)) (c .onward2 .ensures .0) (c .onward2 .ensures .1)
+    let o = c .onward2 .ensures in
+    rw (shared-is (c .onward2 .result) (o .0) (o .1))
+    (shares-found h (s .pre .0 .0) (s .pre .0 .4) (below told) (found-entry _ _ _ _ (is-found told) (found told .find .ensures .1 (h .known .known .rising)))
+    (put-at _ _ e (put .put-u32 .ensures)) (o .2) (o .3))
 
 -- where it is not found
 module _ (c : tie.After-known-told2) where

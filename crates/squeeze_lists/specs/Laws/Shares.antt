@@ -40,6 +40,10 @@ pub put-at : (out ys : List ℕ) {out′ : List ℕ} {f g : ℕ} → f ≡ g →
 put-at out ys e h = rw e at h
 
 -- where a list is stored there is room for it
+-- what is told of the parts of r
+pub shared-is : (r : Shared) {n f : ℕ} → r .entries ≡ n → r .end ≡ f → r ≡ record { until = r .until; entries = n; end = f }
+shared-is r e f = rw (← e, ← f) refl
+
 module _ {s lent : List ℕ} {table at : ℕ} (room : Room s lent table at) (i : ℕ) (l : i < iconCount s) where
   abbrev own : List ℕ
   own = nthList (contents s) i

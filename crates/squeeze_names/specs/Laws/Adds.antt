@@ -11,10 +11,10 @@ use Rattle.marks.specs.Marks.{marked, Marks}
 use Rattle.squeeze_names.specs.Repeated.{Noted, Adds}
 
 pub noted-is : {b r : Bool} {old new : List ℕ} {i : ℕ} → r ≡ b → r ≡ true → Marks old new i → Noted b old new i
-noted-is right e marks = record { is = λ x. marks; not = λ x. absurd (false≢true (sym x ∙ sym right ∙ e)) }
+noted-is right e marks = record { noted = λ x. marks; kept = λ x. absurd (false≢true (sym x ∙ sym right ∙ e)) }
 
 pub noted-not : {b r : Bool} {m : List ℕ} {i : ℕ} → r ≡ b → r ≡ false → Noted b m m i
-noted-not right e = record { is = λ x. absurd (false≢true (sym e ∙ right ∙ x)); not = λ x. refl }
+noted-not right e = record { noted = λ x. absurd (false≢true (sym e ∙ right ∙ x)); kept = λ x. refl }
 
 pub adds-none : (m : List ℕ) (a n : ℕ) {more : ℕ → Bool} → ((i : ℕ) → i < n → more i ≡ false) → Adds m m a n more
 adds-none m a n none = record { same = refl; here = λ i l w. sym (or-false (marked m (a + i))) ∙ ap (λ b. marked m (a + i) || b) (sym (none i l)); others = λ j d. refl }
@@ -49,10 +49,10 @@ module _ {old m : List ℕ} {a n : ℕ} {more : ℕ → Bool} (h : Adds old m a 
 
       go : (b : Bool) → more n ≡ b → Adds old new a (n + 1) more
       go true e =
-          let marks = noted .is e in
+          let marks = noted .noted e in
           each (marks .same) (marks .others) (λ w. rw e (marks .here (omega (arith, h .same, w)) ∙ sym (or-true (marked old (a + n)))))
       go false e =
-          let same = noted .not e in
+          let same = noted .kept e in
           each (ap length same) (λ j d. ap (λ m. marked m j) same)
           (λ w. rw e (ap (λ m. marked m (a + n)) same ∙ h .others (a + n) (inr (omega arith)) ∙ sym (or-false (marked old (a + n)))))
 

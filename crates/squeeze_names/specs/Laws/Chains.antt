@@ -20,31 +20,26 @@ use Rattle.tables.specs.Laws.{valid-header}
 use Rattle.tables.specs.Tables.{Sound}
 use Rattle.tables.specs.declared.Tables.{Tables}
 use Rattle.gathering.specs.Laws.Repeats.{ahead-link}
-use Rattle.squeeze_spec.specs.Uses.{isFirst}
 use Rattle.squeeze_spec.specs.Squeezed.{nthName}
 use Rattle.squeeze_spec.specs.Laws.Order.{chainLength, StandsAt, chain-length, order-length, step-in-order, first-on-chain, none-below-first}
 use Rattle.squeeze_order.specs.Laws.{records-few}
-use Rattle.squeeze_names.specs.Repeated.{Adds, amongBefore, Marked}
+use Rattle.squeeze_names.specs.Repeated.{Adds, amongBefore, comesAgain, RepeatsMarked}
 use Rattle.squeeze_names.specs.Laws.Adds.{adds-none, adds-behind}
-
--- the i-th record in the check's order has a name of one before it
-abbrev pub repeats : List ℕ → ℕ → Bool
-repeats s i = not (isFirst (nthName s) i)
 
 -- the chains below bucket k are looked through; the next record has this number
 pub record Through (s old new : List ℕ) (k number : ℕ) : Type 0 where
   pub passed : number ≡ sum (chainLength s) k
-  pub marks : Adds old new 0 number (repeats s)
+  pub marks : Adds old new 0 number (comesAgain s)
 
 pub through-none : (s m : List ℕ) → Through s m m 0 0
 unfolding sum
 through-none s m = record { passed = refl; marks = adds-none m 0 0 (λ i l. absurd (omega arith)) }
 
 module _ {s : List ℕ} {t : Tables} (sound : Sound s t) where
-  pub through-all : {old new : List ℕ} {number : ℕ} → Through s old new (buckets s) number → ((i : ℕ) → marked old i ≡ false) → Marked s new
+  pub through-all : {old new : List ℕ} {number : ℕ} → Through s old new (buckets s) number → ((i : ℕ) → marked old i ≡ false) → RepeatsMarked s new
   through-all {old} h none i l w =
       let here = h .marks .here i (omega (arith, h .passed, order-length (sound .accepted))) (rw zero-add (omega (arith, h .marks .same))) in
-      rw zero-add at here ∙ ap (λ b. b || repeats s i) (none i)
+      rw zero-add at here ∙ ap (λ b. b || comesAgain s i) (none i)
 
   module _ {k n : ℕ} (l : k < buckets s) (holds : Holds Short s k n) where
     long : chainLength s k ≡ n
@@ -58,7 +53,7 @@ module _ {s : List ℕ} {t : Tables} (sound : Sound s t) where
       named : (i : ℕ) → nameAlong s f i ≡ nameOf s (link s k i)
       named i = ap (λ p. nameOf s (ahead s p (suc i))) start ∙ ap (nameOf s) (ahead-link s k i)
 
-      pub chain-repeats : (i : ℕ) → i < n → amongBefore (nameAlong s f) i ≡ repeats s (sum (chainLength s) k + i)
+      pub chain-repeats : (i : ℕ) → i < n → amongBefore (nameAlong s f) i ≡ comesAgain s (sum (chainLength s) k + i)
       chain-repeats i g = go (amongBefore (nameAlong s f) i) refl
         where
           stands : StandsAt s (sum (chainLength s) k + i) k i
@@ -67,7 +62,7 @@ module _ {s : List ℕ} {t : Tables} (sound : Sound s t) where
           own : nameAlong s f i ≡ nthName s (sum (chainLength s) k + i)
           own = named i ∙ sym (ap (nameOf s) (stands .named))
 
-          go : (b : Bool) → amongBefore (nameAlong s f) i ≡ b → b ≡ repeats s (sum (chainLength s) k + i)
+          go : (b : Bool) → amongBefore (nameAlong s f) i ≡ b → b ≡ comesAgain s (sum (chainLength s) k + i)
           go true e = sym (ap not (not-eq-not {b = false} .0 (λ first.
               let (m, d, same) = seen-named (nameAlong s f) i _ e in
               none-below-first (sound .accepted) stands first m d (sym (named m) ∙ same ∙ own))))
@@ -78,5 +73,5 @@ module _ {s : List ℕ} {t : Tables} (sound : Sound s t) where
       unfolding sum
       through-next {number = number} h more = record {
         passed = rw add-one (omega (arith, h .passed, long));
-        marks = adds-behind (h .marks) (rw zero-add more) (λ i g. chain-repeats i g ∙ ap (λ a. repeats s (a + i)) (sym (h .passed)));
+        marks = adds-behind (h .marks) (rw zero-add more) (λ i g. chain-repeats i g ∙ ap (λ a. comesAgain s (a + i)) (sym (h .passed)));
       }

@@ -1,4 +1,4 @@
--- `squeeze_order::settle` meets its contract: as long as a chain has ended, the next bucket's field is
+-- `squeeze_order::settle` meets its contract: while the chain has ended, the next bucket's field is
 -- read.
 use Prim.Native.Nat.{suc, _+_, _-_, _<_}
 use mathlib.Core.Path.{_≡_, refl, ap, _∙_}

@@ -17,12 +17,12 @@ use Rattle.squeeze_sizes.proofs.block.Statement.{statement}
 use Rattle.squeeze_sizes.proofs.block.Tie as tie
 
 abbrev Inv-loop : tie.InvT-loop
-Inv-loop cache t index₀ marks₀ repeated from bytes icon₀ counted₀ index marks icon counted =
-    (length index ≡ length index₀) × (length marks ≡ length marks₀) × Staying cache icon
-    × Counts cache index marks from (icon .icon) bytes counted
+Inv-loop cache t index₀ again₀ repeated from bytes icon₀ counted₀ index again icon counted =
+    (length index ≡ length index₀) × (length again ≡ length again₀) × Staying cache icon
+    × Counts cache index again from (icon .icon) bytes counted
 
 abbrev μ-loop : tie.MeasureT-loop
-μ-loop cache t index₀ marks₀ repeated from bytes icon₀ counted₀ index marks icon counted = length (contents cache .icons) - icon .icon
+μ-loop cache t index₀ again₀ repeated from bytes icon₀ counted₀ index again icon counted = length (contents cache .icons) - icon .icon
 
 abbrev start : tie.At-loop Inv-loop μ-loop → tie.Start Inv-loop μ-loop
 start c = c .before .before .before .before .before .before

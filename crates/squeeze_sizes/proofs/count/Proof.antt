@@ -10,7 +10,7 @@ use Rattle.names.specs.Index.{entry}
 use Rattle.keys.specs.Key.{keyAt}
 use Rattle.keys.specs.declared.Kind.the-variants.{Images}
 use Rattle.squeeze_index.specs.Laws.Maps.{found-below, missing-within, found-entry, missing-between}
-use Rattle.squeeze_sizes.specs.Laws.Counting.{behind-some, counts-passed, counts-marked, counts-enough, counts-mark, counts-known, counts-new}
+use Rattle.squeeze_sizes.specs.Laws.Counting.{behind-some, counts-passed, counts-enough, counts-again, counts-known, counts-new}
 use Rattle.squeeze_sizes.proofs.count.Statement.{statement}
 use Rattle.squeeze_sizes.proofs.count.Tie as tie
 
@@ -31,7 +31,7 @@ module _ (c : tie.After-known-told) where
   below : c .before .spot .given .0 .0 < start found .args .counted .entries
   below = found-below is-found (found .find .ensures .0)
 
-  room : c .before .spot .given .0 .0 < length (now (start found .args .marks))
+  room : c .before .spot .given .0 .0 < length (now (start found .args .again))
   room = let s = start found in omega (arith, below, s .pre .0 .2, s .pre .1 .2 .fits)
 
   same : entry (keyAt Images (now (start found .args .cache))) (now (start found .args .index)) (c .before .spot .given .0 .0) ≡ keyAt Images (now (start found .args .cache)) (start found .args .list)
@@ -56,37 +56,38 @@ returns c first before h =
 
 returns-2 : tie.Need-returns-2
 returns-2 c first before h =
-    let told = c .before .before .before in
-    let s = start (found told) in
-    counts-mark h (s .pre .0 .0) (below told) (same told) (c .if2 .taken) (room told)
-    (omega (arith, read (found told) .u32-at .ensures, counts-enough h (s .pre .0 .0) (below told) (same told) (c .if2 .taken)))
-
-returns-3 : tie.Need-returns-3
-returns-3 c first before h =
     let added = c .before .before in
     let taking = added .before .before in
     let told = taking .before .before in
     let s = start (missed told) in
-    counts-new h (s .pre .0 .0) (taking .before .if3 .taken) (missing-between _ _ _ _ (is-missing told) (missed told .find .ensures .1 (h .known .known .rising)))
+    counts-new h (s .pre .0 .0) (taking .before .if2 .taken) (missing-between _ _ _ _ (is-missing told) (missed told .find .ensures .1 (h .known .known .rising)))
     (within told) (omega arith) (omega (arith, s .pre .0 .2)) (added .insert .ensures) (ap (λ n. s .args .counted .bytes + (4 + 8 * n)) (read (missed told) .u32-at .ensures))
+
+come-again-requires : tie.Need-come-again-requires
+come-again-requires c κs =
+    let told = c .before .before in
+    let s = start (found told) in
+    (omega (arith, room told), omega (arith, s .pre .0 .3), λ none. omega (arith, read (found told) .u32-at .ensures, counts-enough (s .pre .1 .2) (s .pre .0 .0) (below told) (same told) none))
+
+returns-3 : tie.Need-returns-3
+returns-3 c first before h =
+    let came = c .before .before in
+    let told = came .before .before .before in
+    let s = start (found told) in
+    counts-again h (s .pre .0 .0) (below told) (same told) (room told) (ap (λ n. 4 + 8 * n) (read (found told) .u32-at .ensures)) (came .come-again .ensures)
 
 returns-4 : tie.Need-returns-4
 returns-4 c first before h =
-    let told = c .before .before .before in
-    counts-marked h (start (found told) .pre .0 .0) (below told) (same told) (c .if2 .left)
-
-returns-5 : tie.Need-returns-5
-returns-5 c first before h =
     let told = c .before .before in
     let s = start (missed told) in
     counts-passed h (s .pre .0 .0) (missing-between _ _ _ _ (is-missing told) (missed told .find .ensures .1 (h .known .known .rising)))
-    (omega (arith, h .most, c .if4 .left, s .pre .0 .1))
+    (omega (arith, h .most, c .if3 .left, s .pre .0 .1))
 
-returns-6 : tie.Need-returns-6
-returns-6 c first before h =
+returns-5 : tie.Need-returns-5
+returns-5 c first before h =
     let told = c .before in
     counts-passed h (start (missed told) .pre .0 .0) (missing-between _ _ _ _ (is-missing told) (missed told .find .ensures .1 (h .known .known .rising)))
-    (behind-some h (c .if3 .left))
+    (behind-some h (c .if2 .left))
 
 pub count-spec : {M : Type 1} → statement M
 count-spec =
@@ -101,17 +102,7 @@ count-spec =
     (λ c. search needs)
     (λ c. search needs)
     returns
-    (λ c. let told = c .before in omega (arith, room told, start (found told) .pre .0 .3))
-    (λ c. let told = c .before .before in omega (arith, room told))
-    (λ c. let told = c .before .before .before in omega (arith, room told, start (found told) .pre .0 .3))
-    (λ c. let told = c .before .before .before in omega (arith, room told))
-    (λ c.
-    let told = c .before .before .before in
-    let s = start (found told) in
-    omega (arith, read (found told) .u32-at .ensures, counts-enough (s .pre .1 .2) (s .pre .0 .0) (below told) (same told) (c .if2 .taken)))
-    (λ c. search needs)
-    (λ c. search needs)
-    returns-2
+    come-again-requires
     (λ c. search needs)
     (λ c κs. let told = c .before .before .before in (within told, omega arith))
     (λ c. let s = start (missed (c .before .before .before .before .before .before)) in omega (arith, s .pre .0 .2, s .pre .0 .3))
@@ -121,10 +112,11 @@ count-spec =
     (λ c. search needs)
     (λ c. search needs)
     (λ c. search needs)
+    returns-2
+    (λ c. search needs)
+    (λ c. search needs)
     returns-3
     (λ c. search needs)
     returns-4
     (λ c. search needs)
-    returns-5
-    (λ c. search needs)
-    returns-6)
+    returns-5)

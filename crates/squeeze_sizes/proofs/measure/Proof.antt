@@ -9,11 +9,11 @@ use Rattle.squeeze_sizes.proofs.measure.Statement.{statement}
 use Rattle.squeeze_sizes.proofs.measure.Tie as tie
 
 abbrev Inv-loop : tie.InvT-loop
-Inv-loop cache t index₀ marks₀ repeated icons from₀ bytes₀ index marks from bytes =
-    (length index ≡ length index₀) × (length marks ≡ length marks₀) × Counting cache from bytes
+Inv-loop cache t index₀ again₀ repeated icons from₀ bytes₀ index again from bytes =
+    (length index ≡ length index₀) × (length again ≡ length again₀) × Counting cache from bytes
 
 abbrev μ-loop : tie.MeasureT-loop
-μ-loop cache t index₀ marks₀ repeated icons from₀ bytes₀ index marks from bytes = icons - from
+μ-loop cache t index₀ again₀ repeated icons from₀ bytes₀ index again from bytes = icons - from
 
 abbrev start : tie.At-loop Inv-loop μ-loop → tie.Start Inv-loop μ-loop
 start c = c .before .before .before .before .before

@@ -24,30 +24,30 @@ use Rattle.names.specs.Laws.Repeat.{seen-parts}
 use Rattle.squeeze_index.specs.Maps.{Maps}
 use Rattle.squeeze_index.specs.Laws.Maps.{maps-none, maps-again, maps-met, maps-value, maps-missing, maps-more}
 use Rattle.squeeze_sizes.specs.Distinct.{from, distinct}
-use Rattle.squeeze_sizes.specs.Counting.{ListAt, marked, Counts, Counting, Block}
+use Rattle.squeeze_sizes.specs.Counting.{ListAt, comesAgain, Counts, ComesAgain, Counting, Block}
 use Rattle.squeeze_sizes.specs.Laws.Distinct.{distinct-none, distinct-all, distinct-met, distinct-new, distinct-grows, distinct-less}
 use Rattle.squeeze_sizes.specs.declared.Counted.{Counted}
 
--- marks, with one list more behind
+-- what comes again, with one list more behind
 module _ (part : ℕ → List ℕ) (b n : ℕ) where
-  pub mark-none : (t : List ℕ) → marked part b 0 t ≡ 0
+  pub mark-none : (t : List ℕ) → comesAgain part b 0 t ≡ 0
   unfolding seen among
   mark-none t = refl
 
   abbrev last : List ℕ
   last = from part b n
 
-  mark-by : (t : List ℕ) {m : Bool} → among t (seen (from part b) n) ≡ m → marked part b n t ≡ (if m then 1 else 0)
+  mark-by : (t : List ℕ) {m : Bool} → among t (seen (from part b) n) ≡ m → comesAgain part b n t ≡ (if m then 1 else 0)
   mark-by t e = ap (λ m. if m then 1 else 0) e
 
-  pub mark-new : marked part b (suc n) last ≡ 1
+  pub mark-new : comesAgain part b (suc n) last ≡ 1
   unfolding seen
   mark-new = ap (λ m. if m then 1 else 0) (among-first last (seen (from part b) n))
 
-  same-mark : (t : List ℕ) → among t (seen (from part b) (suc n)) ≡ among t (seen (from part b) n) → marked part b (suc n) t ≡ marked part b n t
+  same-mark : (t : List ℕ) → among t (seen (from part b) (suc n)) ≡ among t (seen (from part b) n) → comesAgain part b (suc n) t ≡ comesAgain part b n t
   same-mark t e = ap (λ m. if m then 1 else 0) e
 
-  pub mark-other : (t : List ℕ) → (t ≡ last → ⊥) → marked part b (suc n) t ≡ marked part b n t
+  pub mark-other : (t : List ℕ) → (t ≡ last → ⊥) → comesAgain part b (suc n) t ≡ comesAgain part b n t
   unfolding seen
   mark-other t other = same-mark t (go (among t (seen (from part b) n)) refl)
     where
@@ -55,7 +55,7 @@ module _ (part : ℕ → List ℕ) (b n : ℕ) where
       go true e = among-rest t last (seen (from part b) n) e
       go false e = not-eq-not {b = false} .0 (λ f. ⊎-elim other (λ was. false≢true (sym e ∙ was)) (among-either t last (seen (from part b) n) f))
 
-  pub mark-again : among last (seen (from part b) n) ≡ true → (t : List ℕ) → marked part b (suc n) t ≡ marked part b n t
+  pub mark-again : among last (seen (from part b) n) ≡ true → (t : List ℕ) → comesAgain part b (suc n) t ≡ comesAgain part b n t
   unfolding seen
   mark-again met t = same-mark t (go (among t (seen (from part b) n)) refl)
     where
@@ -65,16 +65,16 @@ module _ (part : ℕ → List ℕ) (b n : ℕ) where
           ⊎-elim (λ same. false≢true (sym e ∙ ap (λ u. among u (seen (from part b) n)) same ∙ met)) (λ was. false≢true (sym e ∙ was)) (among-either t last (seen (from part b) n) f))
 
   -- what a mark says
-  pub mark-told : (t : List ℕ) → (marked part b n t ≡ 0 → ⊥) → among t (seen (from part b) n) ≡ true
+  pub mark-told : (t : List ℕ) → (comesAgain part b n t ≡ 0 → ⊥) → among t (seen (from part b) n) ≡ true
   mark-told t some = not-eq-not {b = true} .0 (λ e. some (mark-by t e))
 
-  pub unmarked : (t : List ℕ) → marked part b n t ≡ 0 → among t (seen (from part b) n) ≡ false
+  pub unmarked : (t : List ℕ) → comesAgain part b n t ≡ 0 → among t (seen (from part b) n) ≡ false
   unmarked t e = not-eq-not {b = false} .0 (λ f. omega (arith, mark-by t f))
 
 -- nothing is counted yet from icon a on
-pub counts-none : (s index marks : List ℕ) (a before : ℕ) → Counts s index marks a a before (record { until = a; entries = 0; bytes = before })
+pub counts-none : (s index again : List ℕ) (a before : ℕ) → Counts s index again a a before (record { until = a; entries = 0; bytes = before })
 unfolding seen
-counts-none s index marks a before = record {
+counts-none s index again a before = record {
   taken = 0;
   later = 0;
   until-is = omega arith;
@@ -82,7 +82,7 @@ counts-none s index marks a before = record {
   onward = λ l. absurd (omega arith);
   most = omega arith;
   fits = omega arith;
-  known = maps-none _ index marks _;
+  known = maps-none _ index again _;
   sum = omega (arith, distinct-none (nthList (contents s)) a, distinct-none (nthList (contents s)) (a + 0));
 }
 
@@ -100,7 +100,7 @@ module _ {s : List ℕ} {a before : ℕ} (h : Counting s a before) where
       omega (arith, h .sum, ap (distinct (nthList (contents s)) a) e ∙ distinct-none (nthList (contents s)) a, distinct-all (nthList (contents s)) (length (contents s .icons)))
 
   -- what is counted is not more than all
-  module _ {index marks : List ℕ} {n : ℕ} {c : Counted} (k : Counts s index marks a n before c) where
+  module _ {index again : List ℕ} {n : ℕ} {c : Counted} (k : Counts s index again a n before c) where
     pub counts-few : n ≤ length (contents s .icons) → c .bytes ≤ distinct (nthList (contents s)) 0 (length (contents s .icons))
     counts-few l =
         let m = k .taken + k .later in
@@ -118,15 +118,15 @@ module _ {s : List ℕ} {a before : ℕ} (h : Counting s a before) where
           sum = omega (arith, k .sum, ap (distinct (nthList (contents s)) a) x, ap (distinct (nthList (contents s)) (c .until)) y, ap (λ i. distinct (nthList (contents s)) i (k .later)) (k .until-is));
         }
 
-pub counts-at : {s index marks : List ℕ} {a n m before : ℕ} {c : Counted} → m ≡ n → Counts s index marks a n before c → Counts s index marks a m before c
+pub counts-at : {s index again : List ℕ} {a n m before : ℕ} {c : Counted} → m ≡ n → Counts s index again a n before c → Counts s index again a m before c
 counts-at e h = rw e h
 
 -- where not all are taken in, one is
-pub behind-some : {s index marks : List ℕ} {a n before : ℕ} {c : Counted} (h : Counts s index marks a n before c) → (c .until ≡ n → ⊥) → 0 < h .taken
+pub behind-some : {s index again : List ℕ} {a n before : ℕ} {c : Counted} (h : Counts s index again a n before c) → (c .until ≡ n → ⊥) → 0 < h .taken
 behind-some {a = a} {n} h other = let l : a < n = omega (arith, h .until-is, h .passed) in h .onward l
 
 -- the list of icon n is at p
-module _ {s index marks : List ℕ} {a n before : ℕ} {c : Counted} (h : Counts s index marks a n before c) {p : ℕ} (l : ListAt s n p) where
+module _ {s index again : List ℕ} {a n before : ℕ} {c : Counted} (h : Counts s index again a n before c) {p : ℕ} (l : ListAt s n p) where
   abbrev part : ℕ → List ℕ
   part = nthList (contents s)
 
@@ -170,10 +170,10 @@ module _ {s index marks : List ℕ} {a n before : ℕ} {c : Counted} (h : Counts
   new-b : among (keyAt Images s p) (seen (from part (a + x)) y) ≡ false → distinct part (a + x) (suc y) ≡ distinct part (a + x) y + (4 + 8 * be 4 s p)
   new-b e = distinct-new part (a + x) y (rw from-b e) ∙ ap (λ t. distinct part (a + x) y + t) (ap length from-b ∙ size)
 
-  -- it is passed, with other marks or the same
-  onward : {marks′ : List ℕ} {bytes : ℕ} → 0 < x → Maps (keyAt Images s) index marks′ (c .entries) (seen (from part a) x) (marked part (a + x) (suc y))
+  -- it is passed, and what comes again is the same or more
+  onward : {again′ : List ℕ} {bytes : ℕ} → 0 < x → Maps (keyAt Images s) index again′ (c .entries) (seen (from part a) x) (comesAgain part (a + x) (suc y))
       → bytes + distinct part (a + x) (suc y) ≡ before + distinct part a (x + suc y)
-      → Counts s index marks′ a (n + 1) before (record { until = c .until; entries = c .entries; bytes = bytes })
+      → Counts s index again′ a (n + 1) before (record { until = c .until; entries = c .entries; bytes = bytes })
   onward some known sum = record {
     taken = x;
     later = suc y;
@@ -196,7 +196,7 @@ module _ {s index marks : List ℕ} {a n before : ℕ} {c : Counted} (h : Counts
     passed-sum true e = omega (arith, h .sum, met-b e, met-a (sym (all-rest (keyAt Images s p) missing) ∙ e))
     passed-sum false e = omega (arith, h .sum, new-b e, new-a (sym (all-rest (keyAt Images s p) missing) ∙ e))
 
-    pub counts-passed : 0 < h .taken → Counts s index marks a (n + 1) before c
+    pub counts-passed : 0 < h .taken → Counts s index again a (n + 1) before c
     counts-passed some =
         let other : (j : ℕ) → j < c .entries → entry (keyAt Images s) index j ≡ from part (a + x) y → ⊥ =
         λ j g e. false≢true (sym missing ∙ maps-met (h .known) p g (e ∙ from-b)) in
@@ -208,17 +208,17 @@ module _ {s index marks : List ℕ} {a n before : ℕ} {c : Counted} (h : Counts
     found : among (keyAt Images s p) (seen (from part a) x) ≡ true
     found = maps-met (h .known) p g same
 
-    value : getD marks i 0 ≡ marked part (a + x) y (keyAt Images s p)
+    value : getD again i 0 ≡ comesAgain part (a + x) y (keyAt Images s p)
     value = maps-value (h .known) p g same
 
-    pub counts-marked : (getD marks i 0 ≡ 0 → ⊥) → Counts s index marks a (n + 1) before c
+    pub counts-marked : (getD again i 0 ≡ 0 → ⊥) → Counts s index again a (n + 1) before c
     counts-marked some =
         let met = mark-told part (a + x) y (keyAt Images s p) (λ e. some (value ∙ e)) in
         onward (omega (arith, h .most)) (record { known = h .known .known; valued = λ j o. h .known .valued j o ∙ sym (mark-again part (a + x) y (rw from-b met) _) })
         (omega (arith, h .sum, met-b met, met-a (all-first (keyAt Images s p) found)))
 
     -- it comes again for the first time
-    module _ (unmarked-yet : getD marks i 0 ≡ 0) where
+    module _ (unmarked-yet : getD again i 0 ≡ 0) where
       first-again : among (keyAt Images s p) (seen (from part (a + x)) y) ≡ false
       first-again = unmarked part (a + x) y (keyAt Images s p) (sym value ∙ unmarked-yet)
 
@@ -235,19 +235,27 @@ module _ {s index marks : List ℕ} {a n before : ℕ} {c : Counted} (h : Counts
             | no more ↦ not-less-than-itself _ (rw one at (rising i j (omega arith) o))
           ]
 
-      pub counts-mark : {b : ℕ} → i < length marks → b + (4 + 8 * be 4 s p) ≡ c .bytes
-          → Counts s index (set marks i 1) a (n + 1) before (record { until = c .until; entries = c .entries; bytes = b })
+      pub counts-mark : {b : ℕ} → i < length again → b + (4 + 8 * be 4 s p) ≡ c .bytes
+          → Counts s index (set again i 1) a (n + 1) before (record { until = c .until; entries = c .entries; bytes = b })
       counts-mark {b} room less =
           onward (omega (arith, h .most)) (record { known = h .known .known; valued = valued })
           (omega (arith, h .sum, new-b first-again, met-a (all-first (keyAt Images s p) found)))
         where
-          valued : (j : ℕ) → j < c .entries → getD (set marks i 1) j 0 ≡ marked part (a + x) (suc y) (entry (keyAt Images s) index j)
+          valued : (j : ℕ) → j < c .entries → getD (set again i 1) j 0 ≡ comesAgain part (a + x) (suc y) (entry (keyAt Images s) index j)
           valued j o = elim (ℕ-discrete j i) [
             | yes e ↦
-                ap (λ k. getD (set marks i 1) k 0) e ∙ getD-set-same marks i 1 0 room
-                ∙ sym (ap (λ k. marked part (a + x) (suc y) (entry (keyAt Images s) index k)) e ∙ ap (marked part (a + x) (suc y)) (same ∙ sym from-b) ∙ mark-new part (a + x) y)
-            | no d ↦ getD-set-other marks i j 1 0 d ∙ h .known .valued j o ∙ sym (mark-other part (a + x) y _ (apart j o d))
+                ap (λ k. getD (set again i 1) k 0) e ∙ getD-set-same again i 1 0 room
+                ∙ sym (ap (λ k. comesAgain part (a + x) (suc y) (entry (keyAt Images s) index k)) e ∙ ap (comesAgain part (a + x) (suc y)) (same ∙ sym from-b) ∙ mark-new part (a + x) y)
+            | no d ↦ getD-set-other again i j 1 0 d ∙ h .known .valued j o ∙ sym (mark-other part (a + x) y _ (apart j o d))
           ]
+
+    -- marked now, or marked before
+    pub counts-again : {size : ℕ} {again′ : List ℕ} {d : Counted} → i < length again → size ≡ 4 + 8 * be 4 s p → ComesAgain again again′ i size c d
+        → Counts s index again′ a (n + 1) before d
+    counts-again room is told = elim (ℕ-discrete (getD again i 0) 0) [
+      | yes none ↦ let (e, f) = told .first none in rw (e, f) (counts-mark none room (omega (arith, is, counts-enough none)))
+      | no some ↦ let (e, f) = told .later some in rw (e, f) (counts-marked some)
+    ]
 
   -- as long as all are taken in
   module _ (all : c .until ≡ n) where
@@ -260,12 +268,12 @@ module _ {s index marks : List ℕ} {a n before : ℕ} {c : Counted} (h : Counts
     here : from part a x ≡ keyAt Images s p
     here = ap (from part a) (sym x-all) ∙ from-a
 
-    no-marks : (t : List ℕ) → marked part (a + x) y t ≡ marked part (a + suc x) 0 t
-    no-marks t = ap (λ m. marked part (a + x) m t) none-later ∙ mark-none part (a + x) 0 t ∙ sym (mark-none part (a + suc x) 0 t)
+    no-marks : (t : List ℕ) → comesAgain part (a + x) y t ≡ comesAgain part (a + suc x) 0 t
+    no-marks t = ap (λ m. comesAgain part (a + x) m t) none-later ∙ mark-none part (a + x) 0 t ∙ sym (mark-none part (a + suc x) 0 t)
 
-    one-more : {index′ marks′ : List ℕ} {e b : ℕ} → e ≤ suc x → e ≤ length index′
-        → Maps (keyAt Images s) index′ marks′ e (seen (from part a) (suc x)) (marked part (a + suc x) 0) → b ≡ before + distinct part a (suc x)
-        → Counts s index′ marks′ a (n + 1) before (record { until = n + 1; entries = e; bytes = b })
+    one-more : {index′ again′ : List ℕ} {e b : ℕ} → e ≤ suc x → e ≤ length index′
+        → Maps (keyAt Images s) index′ again′ e (seen (from part a) (suc x)) (comesAgain part (a + suc x) 0) → b ≡ before + distinct part a (suc x)
+        → Counts s index′ again′ a (n + 1) before (record { until = n + 1; entries = e; bytes = b })
     one-more most room known sum = record {
       taken = suc x;
       later = 0;
@@ -282,7 +290,7 @@ module _ {s index marks : List ℕ} {a n before : ℕ} {c : Counted} (h : Counts
     old-sum = omega (arith, h .sum, ap (distinct part (a + x)) none-later ∙ distinct-none part (a + x), ap (distinct part a) x-all)
 
     pub counts-known : {i : ℕ} → i < c .entries → entry (keyAt Images s) index i ≡ keyAt Images s p
-        → Counts s index marks a (n + 1) before (record { until = n + 1; entries = c .entries; bytes = c .bytes })
+        → Counts s index again a (n + 1) before (record { until = n + 1; entries = c .entries; bytes = c .bytes })
     unfolding seen
     counts-known g same =
         let met = found g same in
@@ -290,30 +298,30 @@ module _ {s index marks : List ℕ} {a n before : ℕ} {c : Counted} (h : Counts
         (record { known = maps-again (h .known) (rw here met) .known; valued = λ j o. h .known .valued j o ∙ no-marks _ })
         (omega (arith, old-sum, distinct-met part a x (rw here met)))
 
-    -- none of the lists taken in is marked, so a mark more has none to move
-    none-marked : (j : ℕ) → j < c .entries → getD marks j 0 ≡ 0
+    -- none of the lists taken in comes again yet, so a 0 more has nothing to move
+    none-marked : (j : ℕ) → j < c .entries → getD again j 0 ≡ 0
     none-marked j l = h .known .valued j l ∙ no-marks _ ∙ mark-none part (a + suc x) 0 _
 
-    mark-more : {i : ℕ} → i ≤ c .entries → c .entries < length marks → Inserted marks (set marks (c .entries) 0) (c .entries) i 0
+    mark-more : {i : ℕ} → i ≤ c .entries → c .entries < length again → Inserted again (set again (c .entries) 0) (c .entries) i 0
     mark-more {i} within room = record {
-      below = λ k l. getD-set-other marks (c .entries) k 0 0 (omega arith);
+      below = λ k l. getD-set-other again (c .entries) k 0 0 (omega arith);
       here = none i within;
       above = λ k l g. none (k + 1) (omega arith) ∙ sym (none-marked k g);
     }
       where
-        none : (k : ℕ) → k ≤ c .entries → getD (set marks (c .entries) 0) k 0 ≡ 0
+        none : (k : ℕ) → k ≤ c .entries → getD (set again (c .entries) 0) k 0 ≡ 0
         none k l = elim (ℕ-discrete k (c .entries)) [
-          | yes q ↦ rw q (getD-set-same marks (c .entries) 0 0 room)
-          | no q ↦ getD-set-other marks (c .entries) k 0 0 q ∙ none-marked k (omega arith)
+          | yes q ↦ rw q (getD-set-same again (c .entries) 0 0 room)
+          | no q ↦ getD-set-other again (c .entries) k 0 0 q ∙ none-marked k (omega arith)
         ]
 
     pub counts-new : {i b : ℕ} {index′ : List ℕ} → Between (keyAt Images s) index (c .entries) (keyAt Images s p) i i → i ≤ c .entries
-        → c .entries < length index′ → c .entries < length marks → Inserted index index′ (c .entries) i p → b ≡ c .bytes + (4 + 8 * be 4 s p)
-        → Counts s index′ (set marks (c .entries) 0) a (n + 1) before (record { until = n + 1; entries = c .entries + 1; bytes = b })
+        → c .entries < length index′ → c .entries < length again → Inserted index index′ (c .entries) i p → b ≡ c .bytes + (4 + 8 * be 4 s p)
+        → Counts s index′ (set again (c .entries) 0) a (n + 1) before (record { until = n + 1; entries = c .entries + 1; bytes = b })
     unfolding seen
     counts-new spot within room wide put sum =
         let none = maps-missing (h .known) p spot in
-        let zero-mark : 0 ≡ marked part (a + x) y (keyAt Images s p) = sym (no-marks _ ∙ mark-none part (a + suc x) 0 _) in
+        let zero-mark : 0 ≡ comesAgain part (a + x) y (keyAt Images s p) = sym (no-marks _ ∙ mark-none part (a + suc x) 0 _) in
         let more = maps-more (h .known) p spot within (record { entries = put; values-too = mark-more within wide }) zero-mark in
         one-more (omega (arith, h .most)) (omega arith)
         (record { known = rw (← here) at (more .known); valued = λ j o. more .valued j o ∙ no-marks _ })

@@ -32,7 +32,7 @@ use Rattle.squeeze_sizes.specs.Distinct.{distinct}
 use Rattle.squeeze_sizes.specs.Counting.{ListAt}
 use Rattle.squeeze_sizes.specs.Laws.Distinct.{distinct-none, distinct-most}
 
--- a list takes fewer bytes than the cache
+-- a list takes no more bytes than the cache
 module _ {s : List ℕ} {k r : ℕ} (h : Keeps Short s k r) where
   list-size : length (listBytes (iconOf s r)) ≡ 4 + 8 * images s r
   list-size =

@@ -1,4 +1,4 @@
--- `squeeze_names::repeated` meets its contract: before each turn the chains passed are looked
+-- `squeeze_names::mark_repeated` meets its contract: before each turn the chains passed are looked
 -- through.
 use Prim.Native.Nat.{_+_, _-_, _^_, _≤_, _<_}
 use mathlib.Core.Path.{_≡_, refl, _∙_}
@@ -10,8 +10,8 @@ use Rattle.format.specs.Header.{buckets, bucketField}
 use Rattle.tables.specs.Laws.{same-buckets, same-field, field-inside}
 use Rattle.gathering.specs.Laws.Repeats.{chain-inside}
 use Rattle.squeeze_names.specs.Laws.Chains.{Through, through-none, through-all, through-next, number-few}
-use Rattle.squeeze_names.proofs.repeated.Statement.{statement}
-use Rattle.squeeze_names.proofs.repeated.Tie as tie
+use Rattle.squeeze_names.proofs.mark_repeated.Statement.{statement}
+use Rattle.squeeze_names.proofs.mark_repeated.Tie as tie
 
 abbrev Inv-loop : tie.InvT-loop
 Inv-loop cache t index₀ marks₀ number₀ bucket₀ index marks number bucket =
@@ -68,8 +68,8 @@ returns c none =
     let all : l .loop .bucket ≡ buckets (now (start .args .cache)) = omega (arith, same-buckets (start .pre .0 .tables)) in
     through-all (start .pre .0) (rw all at (l .loop .inv .3)) none
 
-pub repeated-spec : {M : Type 1} → statement M
-repeated-spec =
+pub mark-repeated-spec : {M : Type 1} → statement M
+mark-repeated-spec =
     tie.close
     (tie.spec
     Inv-loop
