@@ -446,9 +446,10 @@ uint32_t icon_cache_salvage(const uint8_t *cache, size_t cache_len,
  *
  * It takes up to 640 KiB of stack. 455,000 icons that share 600 lists take less
  * than a second, as many with different lists some four seconds, and 800,000
- * names on one chain about one. Each record beyond 983,040 is compared with all
- * before it on its chain: a cache of 16 MiB that was made for it, with some 12
- * bytes for each record, can take days, so a limit of time is advised.
+ * names on one chain about one. Long lists that begin alike can take a minute.
+ * Each record beyond 983,040 is compared with all before it on its chain: a
+ * cache of 16 MiB that was made for it, nearly all of it records, can take days,
+ * so a limit of time is advised.
  */
 uint32_t icon_cache_squeeze(const uint8_t *cache, size_t cache_len,
                             uint8_t *squeezed, size_t squeezed_len,

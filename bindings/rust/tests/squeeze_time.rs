@@ -1,4 +1,4 @@
-//! How long it takes to squeeze large caches. The bars are those of the proved library.
+//! How long it takes to squeeze large caches. The limits are for the proved library.
 
 #[allow(dead_code)]
 mod generator;
