@@ -74,6 +74,10 @@ order-itself (x ∷ a) = first-equal x x a a refl ∙ order-itself a
 pub not-less-than-itself : (a : List ℕ) → order a a ≡ Less → ⊥
 not-less-than-itself a e = let z : _≡_ {A = ℕ} 0 1 = cc (order-itself a) in omega arith
 
+-- keys that do not compare as equal are not the same
+pub less-other : (a b : List ℕ) → order a b ≡ Less → a ≡ b → ⊥
+less-other a b e same = not-less-than-itself b (rw same at e)
+
 pub greater-less : (a b : List ℕ) → order a b ≡ Greater → order b a ≡ Less
 unfolding order
 greater-less [] [] e = cc
@@ -85,6 +89,9 @@ greater-less (x ∷ a) (y ∷ b) e = go (compared x y) (greater-less a b)
     go (less h) back = cc (first-less x y a b h)
     go (greater h) back = first-less y x b a h
     go (equal h) back = first-equal y x b a (sym h) ∙ back (sym (first-equal x y a b h) ∙ e)
+
+pub greater-other : (a b : List ℕ) → order a b ≡ Greater → a ≡ b → ⊥
+greater-other a b e same = less-other b a (greater-less a b e) (sym same)
 
 -- why a key is less than another that begins with a number too
 less-because : (x y : ℕ) (a b : List ℕ) → order (x ∷ a) (y ∷ b) ≡ Less → (x < y) ⊎ ((x ≡ y) × (order a b ≡ Less))

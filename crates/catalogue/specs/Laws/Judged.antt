@@ -1,5 +1,5 @@
 -- Bytes that are judged good are the bytes of the catalogue that they say, and it is a good one.
-use Prim.Native.Nat.{ℕ, zero, suc, _+_, _≤_}
+use Prim.Native.Nat.{ℕ, zero, suc, _+_, _*_, _≤_}
 use mathlib.Core.Path.{_≡_, refl, sym, ap, _∙_}
 use mathlib.Core.List.{List, [], _++_, flatMap, append-nil}
 use mathlib.Core.Bool.{true, and-eq-true-iff}
@@ -12,7 +12,7 @@ use Rattle.format.specs.Laws.Faults.{orElse-none, unless-none}
 use Rattle.format.specs.Segments.{allowedPath}
 use Rattle.catalogue.specs.Row.{rowEnd, row}
 use Rattle.catalogue.specs.Catalogue.{Each, GoodImage, GoodIcon, imageBytes, pathBytes, iconBytes, catalogueBytes}
-use Rattle.catalogue.specs.Fields.{AreBytes, pathLength, pathText, pathEnd, imageAt, imageEnd, nameLength, imageCountAt, imageCount, firstImageAt, iconEnd, iconAt, pathCount, iconCountAt, iconCount, firstIconAt, catalogueEnd, pathsIn, iconsIn, catalogueIn}
+use Rattle.catalogue.specs.Fields.{AreBytes, pathLength, pathText, pathEnd, imageAt, imageEnd, imagesFrom, nameLength, imageCountAt, imageCount, firstImageAt, iconEnd, iconAt, pathCount, iconCountAt, iconCount, firstIconAt, catalogueEnd, pathsIn, iconsIn, catalogueIn}
 use Rattle.catalogue.specs.Judgement.{pathFieldsFault, imageFieldFault, iconFieldsFault, fieldsFault}
 use Rattle.catalogue.specs.Repeats.{iconUses, catalogueFault}
 use Rattle.catalogue.specs.Promise.{Says}
@@ -49,6 +49,11 @@ module _ (c : List ℕ) (small : AreBytes c) where
   image-spans p there =
       let two = spans-join (spans-number c small 2 p (omega arith)) (spans-number c small 2 (p + 2) (omega arith)) refl in
       spans-end (spans-join two (spans-number c small 4 (p + 4) (omega arith)) (omega arith)) (omega arith)
+
+  pub images-span : (m p : ℕ) → p + 8 * m ≤ length c → Spans c p (flatMap imageBytes (imagesFrom m c p)) (p + 8 * m)
+  unfolding row flatMap
+  images-span zero p there = spans-end (spans-none c p) (omega arith)
+  images-span (suc m) p there = spans-end (spans-join (image-spans p (omega arith)) (images-span m (p + 8) (omega arith)) refl) (omega arith)
 
   pub image-told : (n p : ℕ) → imageFieldFault n c p .number ≡ 0 → Spans c p (imageBytes (imageAt c p)) (imageEnd p) × GoodImage n (imageAt c p)
   image-told n p e =

@@ -1,5 +1,5 @@
 -- What is known of the parts of an accepted cache, and how long their bytes in a catalogue are.
-use Prim.Native.Nat.{ℕ, zero, suc, _+_, _*_, _≤_, _<_}
+use Prim.Native.Nat.{ℕ, _+_, _*_, _≤_, _<_}
 use mathlib.Core.Path.{_≡_, refl, sym, ap, _∙_}
 use mathlib.Core.List.{List, _++_, flatMap, append-assoc}
 use mathlib.Core.Bool.{true}
@@ -17,13 +17,12 @@ use Rattle.format.specs.Laws.Rules.{record-valid, tables-paths}
 use Rattle.format.specs.declared.Reading.the-variants.{Short}
 use Rattle.tables.specs.Laws.{PathInside, path-inside}
 use Rattle.tables.specs.declared.Tables.{Tables}
-use Rattle.catalogue.specs.Row.{row}
 use Rattle.catalogue.specs.Catalogue.{imageBytes, iconBytes}
 use Rattle.catalogue.specs.Fields.{AreBytes, part, imageAt, imageEnd, imagesFrom}
 use Rattle.catalogue.specs.Listed.{iconOf}
 use Rattle.catalogue.specs.Laws.Rows.{row-length}
-use Rattle.catalogue.specs.Laws.Spans.{Spans, spans-none, spans-join, spans-end, spans-are}
-use Rattle.catalogue.specs.Laws.Judged.{image-spans}
+use Rattle.catalogue.specs.Laws.Spans.{spans-are}
+use Rattle.catalogue.specs.Laws.Judged.{images-span}
 use Rattle.catalogue.specs.Laws.Images.{images-length}
 use Rattle.catalogue.specs.Laws.Icons.{paths-each}
 use Rattle.tables.specs.Tables.{Sound}
@@ -61,13 +60,8 @@ icon-length s r =
 
 -- the images of a record are its bytes there
 module _ (s : List ℕ) (small : AreBytes s) where
-  images-span : (m p : ℕ) → p + 8 * m ≤ length s → Spans s p (flatMap imageBytes (imagesFrom m s p)) (p + 8 * m)
-  unfolding row flatMap
-  images-span zero p l = spans-end (spans-none s p) (omega arith)
-  images-span (suc m) p l = spans-end (spans-join (image-spans s small p (omega arith)) (images-span m (p + 8) (omega arith)) refl) (omega arith)
-
   pub images-are : (m p : ℕ) → p + 8 * m ≤ length s → part s p (8 * m) ≡ flatMap imageBytes (imagesFrom m s p)
-  images-are m p l = spans-are (images-span m p l) (omega arith) l (8 * m) refl
+  images-are m p l = spans-are (images-span s small m p l) (omega arith) l (8 * m) refl
 
   -- what is put for an icon
   pub icon-is : {r : ℕ} {a : IconParts} → a ≡ partsOf s r → Kept s r

@@ -2,8 +2,7 @@
 use mathlib.Core.Path.{sym, _∙_}
 use mathlib.Core.Bool.{true≢false, false≢true}
 use borrow.Author.Needs.{needs}
-use Rattle.keys.specs.Laws.{order-equal}
-use Rattle.squeeze_icons.specs.Laws.Before.{less-other, greater-other}
+use Rattle.keys.specs.Laws.{order-equal, less-other, greater-other}
 use Rattle.squeeze_icons.proofs.same.Statement.{statement}
 use Rattle.squeeze_icons.proofs.same.Tie as tie
 

@@ -13,20 +13,10 @@ use Rattle.format.specs.Words.{link, Holds, Accepted, NoneBelow}
 use Rattle.format.specs.declared.Reading.the-variants.{Short}
 use Rattle.format.specs.Laws.Below.{below-suc}
 use Rattle.format.specs.Laws.Links.{one-step}
-use Rattle.keys.specs.declared.Ordering.the-variants.{Less, Greater}
-use Rattle.keys.specs.Order.{order}
-use Rattle.keys.specs.Laws.{not-less-than-itself, greater-less}
 use Rattle.squeeze_spec.specs.Uses.{isFirst}
 use Rattle.squeeze_spec.specs.Squeezed.{nthName}
 use Rattle.squeeze_spec.specs.Laws.Order.{chainLength, chain-lengths, first-on-chain, none-below-first}
 use Rattle.squeeze_order.specs.Cursor.{Here}
-
--- keys that do not compare as equal are not the same
-pub less-other : (a b : List ℕ) → order a b ≡ Less → a ≡ b → ⊥
-less-other a b e same = not-less-than-itself b (rw same at e)
-
-pub greater-other : (a b : List ℕ) → order a b ≡ Greater → a ≡ b → ⊥
-greater-other a b e same = less-other b a (greater-less a b e) (sym same)
 
 -- i records are passed, and none has the name of record n; r is the next
 pub record Passing (s : List ℕ) (n k step r i : ℕ) : Type 0 where

@@ -9,21 +9,14 @@ use native.Mathlib.Omega.{arith}
 use lib.ListN.{length, length-append}
 use Rattle.format.specs.Bytes.{joined}
 use Rattle.format.specs.Choice.{if_then_else_}
-use Rattle.format.specs.String.{among, sameBytes}
-use Rattle.format.specs.Laws.Names.{among-first, among-rest, among-either, same-equal, other-unequal}
+use Rattle.format.specs.String.{among}
+use Rattle.format.specs.Laws.Names.{among-first, among-rest, among-either, equal-or-not}
 use Rattle.names.specs.Repeat.{seen}
 use Rattle.names.specs.Laws.Repeat.{named-seen, seen-named}
 use Rattle.squeeze_spec.specs.Uses.{storedOnce}
 use Rattle.squeeze_spec.specs.Laws.Uses.{stored-first, stored-later}
 use Rattle.squeeze_index.specs.Laws.Firsts.{unmet-first, met-later}
 use Rattle.squeeze_sizes.specs.Distinct.{from, distinct}
-
-same-text : (t u : List ℕ) → Dec (t ≡ u)
-same-text t u = go (sameBytes t u) refl
-  where
-    go : (b : Bool) → sameBytes t u ≡ b → Dec (t ≡ u)
-    go true e = yes (same-equal t u e)
-    go false e = no (other-unequal t u e)
 
 module _ (part : ℕ → List ℕ) where
   pub distinct-none : (a : ℕ) → distinct part a 0 ≡ 0
@@ -137,7 +130,7 @@ module _ (part : ℕ → List ℕ) where
     one-fewer zero =
         let z : a + 0 ≡ a = omega arith in
         distinct-new a 0 refl ∙ rw (distinct-none a, distinct-none (suc a), z)
-    one-fewer (suc n) = elim (same-text (next n) (part a)) [
+    one-fewer (suc n) = elim (equal-or-not (next n) (part a)) [
       | yes e ↦ fewer-same n e (again n) refl (one-fewer n)
       | no d ↦ fewer-other n d (among (next n) (seen (from part (suc a)) n)) refl (one-fewer n)
     ]

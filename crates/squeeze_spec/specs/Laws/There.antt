@@ -1,8 +1,8 @@
 -- What a cache holds stands in it as the bytes that are packed, so that they can be compared and
 -- copied as they are.
-use Prim.Native.Nat.{ℕ, zero, suc, _+_, _*_, _≤_, _<_}
+use Prim.Native.Nat.{ℕ, zero, suc, _+_, _<_}
 use mathlib.Core.Path.{_≡_, refl, sym, ap, _∙_}
-use mathlib.Core.List.{List, [], _∷_, _++_, append-assoc, flatMap}
+use mathlib.Core.List.{List, [], _∷_, _++_, append-assoc}
 use mathlib.Core.Bool.{true}
 use native.Mathlib.Omega.{arith}
 use lib.ListN.{length, drop}
@@ -17,14 +17,12 @@ use Rattle.format.specs.Laws.Strings.{whole-string}
 use Rattle.format.specs.Laws.Extents.{string-whole}
 use Rattle.format.specs.Laws.Rules.{record-valid}
 use Rattle.format.specs.declared.Reading.the-variants.{Short}
-use Rattle.catalogue.specs.Catalogue.{imageBytes}
-use Rattle.catalogue.specs.Fields.{AreBytes, imageAt, imageEnd, imagesFrom}
+use Rattle.catalogue.specs.Fields.{AreBytes, imageAt, imageEnd}
 use Rattle.catalogue.specs.LaidOut.{Stands, listBytes, stringBytes}
 use Rattle.catalogue.specs.Listed.{iconOf}
-use Rattle.catalogue.specs.Laws.Spans.{Spans, spans-none, spans-join, spans-end, spans-number}
-use Rattle.catalogue.specs.Laws.Judged.{image-spans}
+use Rattle.catalogue.specs.Laws.Spans.{Spans, spans-join, spans-number}
+use Rattle.catalogue.specs.Laws.Judged.{images-span}
 use Rattle.catalogue.specs.Laws.Rows.{row-length}
-use Rattle.catalogue.specs.Row.{row}
 
 spans-stand : {s xs : List ℕ} {p e : ℕ} → Spans s p xs e → Stands s p xs
 spans-stand {s} {e = e} h = record { rest = drop e s; there = h .are }
@@ -53,17 +51,11 @@ pub name-there : {s : List ℕ} {k r : ℕ} → Keeps Short s k r → Stands s (
 name-there {s} {k} {r} h = whole-there s (be 4 s (nameField r)) longestName (record-valid Short s k r (h .rules) .named)
 
 module _ (s : List ℕ) (small : AreBytes s) where
-  images-span : (m p : ℕ) → p + 8 * m ≤ length s → Spans s p (flatMap imageBytes (imagesFrom m s p)) (p + 8 * m)
-  unfolding row flatMap
-  images-span zero p h = spans-end (spans-none s p) (omega arith)
-  images-span (suc m) p h =
-      spans-end (spans-join (image-spans s small p (omega arith)) (images-span m (p + 8) (omega arith)) refl) (omega arith)
-
   -- the image list of a record, with its count
   pub list-there : {k r : ℕ} → Keeps Short s k r → Stands s (imagesAt s r) (listBytes (iconOf s r))
   list-there {k} {r} h =
       let m = images s r in
       let p = imagesAt s r in
       let inside = record-valid Short s k r (h .rules) .listed in
-      let all = spans-join (spans-number s small 4 p (omega arith)) (images-span m (entriesAt p) (omega arith)) refl in
+      let all = spans-join (spans-number s small 4 p (omega arith)) (images-span s small m (entriesAt p) (omega arith)) refl in
       rw (row-length (imageAt s) imageEnd m (entriesAt p)) (spans-stand all)
