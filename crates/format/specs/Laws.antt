@@ -30,6 +30,7 @@ pub mod Course
 pub mod Links
 pub mod Apart
 pub mod Order
+pub mod InOrder
 pub mod Buckets
 pub mod Verdict
 pub mod Search

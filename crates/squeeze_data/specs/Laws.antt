@@ -9,7 +9,7 @@ use Rattle.format.specs.Fault.{noFault}
 use Rattle.format.specs.Laws.Faults.{orElse-first, orElse-next}
 use Rattle.format.specs.Laws.Links.{keeps-listed}
 use Rattle.squeeze_spec.specs.Call.{recordDataFault, dataFault}
-use Rattle.squeeze_order.specs.Cursor.{Here}
+use Rattle.in_order.specs.Cursor.{Here}
 use Rattle.squeeze_data.specs.Listed.{ListInside}
 
 pub here-listed : {s : List ℕ} {n k r : ℕ} → Here s n k r → ListInside s r

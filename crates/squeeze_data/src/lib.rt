@@ -9,8 +9,8 @@ ghost use Rattle.squeeze_spec.specs.Call.{imagesDataFault, recordDataFault, dat
 ghost use Rattle.squeeze_data.specs.Listed.{ListInside};
 use bigendian::u32_at;
 use format::Fault;
-use squeeze_order::first;
-use squeeze_order::next;
+use in_order::first;
+use in_order::next;
 use tables::Tables;
 
 // The first of `m` images from `at` on that has image data.

@@ -10,9 +10,10 @@ use Rattle.format.specs.declared.Reading.the-variants.{Short}
 use Rattle.catalogue.specs.LaidOut.{nthIcon, iconBucket}
 use Rattle.catalogue.specs.Listed.{iconOf}
 use Rattle.squeeze_spec.specs.Uses.{isFirst}
-use Rattle.squeeze_spec.specs.Squeezed.{nthName, keptUpTo, contents}
-use Rattle.squeeze_order.specs.Cursor.{Real, At}
-use Rattle.squeeze_order.specs.declared.Cursor.{Cursor}
+use Rattle.format.specs.Chain.{nthName}
+use Rattle.squeeze_spec.specs.Squeezed.{keptUpTo, contents}
+use Rattle.in_order.specs.Cursor.{Real, At}
+use Rattle.in_order.specs.declared.Cursor.{Cursor}
 use Rattle.squeeze_icons.specs.declared.Icons.{Icons}
 
 -- before a record is looked at: n icons stay of those before it

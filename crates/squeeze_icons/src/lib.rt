@@ -8,16 +8,17 @@ ghost use Rattle.keys.specs.Key.{keyAt};
 ghost use Rattle.keys.specs.declared.Kind.the-variants.{Ended};
 ghost use Rattle.tables.specs.Tables.{Sound};
 ghost use Rattle.squeeze_spec.specs.Uses.{isFirst};
-ghost use Rattle.squeeze_spec.specs.Squeezed.{nthName, contents};
-ghost use Rattle.squeeze_order.specs.Cursor.{Real, At};
+ghost use Rattle.format.specs.Chain.{nthName};
+ghost use Rattle.squeeze_spec.specs.Squeezed.{contents};
+ghost use Rattle.in_order.specs.Cursor.{Real, At};
 ghost use Rattle.squeeze_names.specs.Repeated.{RepeatsMarked};
 ghost use Rattle.squeeze_icons.specs.Staying.{Seeking, Staying};
 use bigendian::u32_at;
+use in_order::Cursor;
 use keys::Kind;
 use keys::Ordering;
 use keys::compare;
 use marks::is_marked;
-use squeeze_order::Cursor;
 use tables::Tables;
 use tables::bucket_field;
 
@@ -82,7 +83,7 @@ fn seek(cache: &[u8], t: Tables, repeated: &[u32], icon: usize, cursor: Cursor) 
         if stays(cache, t, repeated, at) {
             return Icons { icon, at };
         }
-        at = squeeze_order::next(cache, t, at);
+        at = in_order::next(cache, t, at);
     }
     Icons { icon, at }
 }
@@ -92,7 +93,7 @@ pub fn first(cache: &[u8], t: Tables, repeated: &[u32]) -> Icons
     requires { ⌜ Sound (now cache) t × RepeatsMarked (now cache) (now repeated) ⌝ }
     ensures { λ r. ⌜ Staying (now (cache .entry)) r × (r .icon ≡ 0) ⌝ }
 {
-    let cursor = squeeze_order::first(cache, t);
+    let cursor = in_order::first(cache, t);
     seek(cache, t, repeated, 0, cursor)
 }
 
@@ -102,7 +103,7 @@ pub fn next(cache: &[u8], t: Tables, repeated: &[u32], icons: Icons) -> Icons
     ensures { λ r. ⌜ Staying (now (cache .entry)) r × (r .icon ≡ icons .icon + 1) ⌝ }
 {
     let at = icons.at;
-    let cursor = squeeze_order::next(cache, t, at);
+    let cursor = in_order::next(cache, t, at);
     seek(cache, t, repeated, icons.icon + 1, cursor)
 }
 

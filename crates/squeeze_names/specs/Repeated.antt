@@ -8,7 +8,7 @@ use lib.Dec.{ltb}
 use lib.ListN.{length}
 use Rattle.format.specs.Choice.{if_then_else_}
 use Rattle.format.specs.String.{among}
-use Rattle.format.specs.Chain.{allRecords}
+use Rattle.format.specs.Chain.{allRecords, nthName}
 use Rattle.format.specs.declared.Reading.the-variants.{Short}
 use Rattle.keys.specs.Key.{keyAt}
 use Rattle.keys.specs.declared.Kind.the-variants.{Ended}
@@ -18,7 +18,6 @@ use Rattle.marks.specs.Marks.{marked, Marks}
 use Rattle.rounds.specs.Stepping.{ahead}
 use Rattle.repeats.specs.Along.{nameAlong}
 use Rattle.squeeze_spec.specs.Uses.{isFirst}
-use Rattle.squeeze_spec.specs.Squeezed.{nthName}
 use Rattle.squeeze_names.specs.declared.Block.{Block}
 
 -- i is marked, if b says so, and else nothing changes

@@ -2,22 +2,14 @@
 -- count.
 use Prim.Native.Nat.{ℕ}
 use mathlib.Core.List.{List, [], _∷_, map}
-use lib.ListN.{length, getD}
+use lib.ListN.{length}
 use Rattle.format.specs.Header.{buckets, directories, pathOf}
-use Rattle.format.specs.Record.{nameOf}
-use Rattle.format.specs.Chain.{allRecords}
+use Rattle.format.specs.Chain.{allRecords, nthRecord, nthName}
 use Rattle.format.specs.declared.Reading.the-variants.{Short}
 use Rattle.catalogue.specs.Catalogue.{Catalogue, catalogueIs}
 use Rattle.catalogue.specs.Listed.{firsts, iconOf}
 use Rattle.squeeze_spec.specs.Uses.{storedOnce}
 use Rattle.squeeze_spec.specs.Packed.{packed}
-
--- the i-th record in the check's order, and its name
-abbrev pub nthRecord : List ℕ → ℕ → ℕ
-nthRecord s i = getD (allRecords Short s) i 0
-
-abbrev pub nthName : List ℕ → ℕ → List ℕ
-nthName s i = nameOf s (nthRecord s i)
 
 -- those of the first n records that stay: the first of each name, in the check's order; and all
 -- that stay

@@ -6,13 +6,12 @@ use native.Mathlib.Omega.{arith}
 use borrow.Author.Needs.{needs}
 use lib.ListN.{length, drop}
 use denote.Ref.{now}
-use Rattle.format.specs.Chain.{allRecords}
+use Rattle.format.specs.Chain.{allRecords, nthRecord}
 use Rattle.format.specs.declared.Reading.the-variants.{Short}
 use Rattle.format.specs.Laws.Faults.{same-number}
-use Rattle.squeeze_spec.specs.Squeezed.{nthRecord}
 use Rattle.squeeze_spec.specs.Call.{recordDataFault, dataFault}
-use Rattle.squeeze_order.specs.Cursor.{At, Here}
-use Rattle.squeeze_order.specs.Laws.{here-below}
+use Rattle.in_order.specs.Cursor.{At, Here}
+use Rattle.in_order.specs.Laws.{here-below}
 use Rattle.squeeze_data.specs.Laws.{here-listed, none-left, data-here, data-later}
 use Rattle.squeeze_data.proofs.image_data.Statement.{statement}
 use Rattle.squeeze_data.proofs.image_data.Tie as tie

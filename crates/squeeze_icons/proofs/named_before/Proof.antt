@@ -16,9 +16,9 @@ use Rattle.format.specs.Laws.Apart.{holds-few}
 use Rattle.keys.specs.Key.{keyAt}
 use Rattle.keys.specs.declared.Kind.the-variants.{Ended}
 use Rattle.tables.specs.Laws.{valid-header, same-field, field-inside}
-use Rattle.squeeze_order.specs.Cursor.{Here}
-use Rattle.squeeze_spec.specs.Squeezed.{nthName}
-use Rattle.squeeze_spec.specs.Laws.Order.{chainLength, chain-lengths}
+use Rattle.in_order.specs.Cursor.{Here}
+use Rattle.format.specs.Chain.{nthName}
+use Rattle.format.specs.Laws.InOrder.{chainLength, chain-lengths}
 use Rattle.squeeze_icons.specs.Laws.Before.{Passing, passing-first, passing-inside, passing-all, passing-same, passing-next, passing-before}
 use Rattle.squeeze_icons.proofs.named_before.Statement.{statement}
 use Rattle.squeeze_icons.proofs.named_before.Tie as tie

@@ -6,7 +6,7 @@ use borrow.Author.Needs.{needs}
 use lib.ListN.{length}
 use Rattle.format.specs.Chain.{allRecords}
 use Rattle.format.specs.declared.Reading.the-variants.{Short}
-use Rattle.squeeze_order.specs.Laws.{here-below}
+use Rattle.in_order.specs.Laws.{here-below}
 use Rattle.squeeze_icons.specs.Staying.{Seeking}
 use Rattle.squeeze_icons.specs.Laws.Seeking.{seeking-gone}
 use Rattle.squeeze_icons.proofs.seek.Statement.{statement}

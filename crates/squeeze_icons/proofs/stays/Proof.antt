@@ -3,7 +3,7 @@ use mathlib.Core.Path.{ap, _∙_}
 use mathlib.Core.Bool.{not, Bool·not-not}
 use native.Mathlib.Omega.{arith}
 use borrow.Author.Needs.{needs}
-use Rattle.squeeze_order.specs.Laws.{here-below}
+use Rattle.in_order.specs.Laws.{here-below}
 use Rattle.squeeze_icons.proofs.stays.Statement.{statement}
 use Rattle.squeeze_icons.proofs.stays.Tie as tie
 

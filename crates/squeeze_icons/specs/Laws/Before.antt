@@ -14,9 +14,10 @@ use Rattle.format.specs.declared.Reading.the-variants.{Short}
 use Rattle.format.specs.Laws.Below.{below-suc}
 use Rattle.format.specs.Laws.Links.{one-step}
 use Rattle.squeeze_spec.specs.Uses.{isFirst}
-use Rattle.squeeze_spec.specs.Squeezed.{nthName}
-use Rattle.squeeze_spec.specs.Laws.Order.{chainLength, chain-lengths, first-on-chain, none-below-first}
-use Rattle.squeeze_order.specs.Cursor.{Here}
+use Rattle.format.specs.Chain.{nthName}
+use Rattle.format.specs.Laws.InOrder.{chainLength, chain-lengths}
+use Rattle.squeeze_spec.specs.Laws.Order.{first-on-chain, none-below-first}
+use Rattle.in_order.specs.Cursor.{Here}
 
 -- i records are passed, and none has the name of record n; r is the next
 pub record Passing (s : List ℕ) (n k step r i : ℕ) : Type 0 where

@@ -7,18 +7,18 @@ use native.Mathlib.Omega.{arith}
 use lib.ListN.{length, getD, length-append}
 use Rattle.format.specs.Layout.{endValue}
 use Rattle.format.specs.Bytes.{joined}
-use Rattle.format.specs.Chain.{allRecords}
+use Rattle.format.specs.Chain.{allRecords, nthRecord, nthName}
 use Rattle.format.specs.Words.{Accepted}
 use Rattle.format.specs.declared.Reading.the-variants.{Short}
 use Rattle.format.specs.Laws.Links.{keeps-bucket}
 use Rattle.catalogue.specs.Listed.{iconOf}
 use Rattle.squeeze_spec.specs.Uses.{isFirst}
-use Rattle.squeeze_spec.specs.Squeezed.{nthRecord, nthName, keptUpTo, keptRecords, contents}
+use Rattle.squeeze_spec.specs.Squeezed.{keptUpTo, keptRecords, contents}
 use Rattle.squeeze_spec.specs.Laws.Uses.{stored-first, stored-later}
 use Rattle.squeeze_spec.specs.Laws.Contents.{icon-count, icon-is}
 use Rattle.squeeze_spec.specs.Laws.Passes.{kept-number}
-use Rattle.squeeze_order.specs.Cursor.{Real}
-use Rattle.squeeze_order.specs.Laws.{records-few, here-below}
+use Rattle.in_order.specs.Cursor.{Real}
+use Rattle.in_order.specs.Laws.{records-few, here-keeps, here-below}
 use Rattle.squeeze_icons.specs.Staying.{Staying, IconAt}
 use Rattle.squeeze_icons.specs.declared.Icons.{Icons}
 
@@ -46,7 +46,7 @@ module _ {s : List ℕ} {x : Icons} (acc : Accepted Short s) (h : Staying s x) w
       let (g, e) = kept-number s (x .at .number) (here-below acc here) (h .stays real) in
       let below : x .icon < length (keptRecords s) = omega (arith, h .icons) in
       let is = icon-is s (x .icon) below ∙ ap (iconOf s) (ap (λ i. getD (keptRecords s) i 0) (h .icons) ∙ e ∙ sym (here .is)) in
-      let keeps = rw (← here .is) at (here .stands .keeps) in
+      let keeps = here-keeps acc here in
       record {
         below = omega (arith, icon-count s);
         is = is;

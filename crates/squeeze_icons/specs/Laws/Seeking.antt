@@ -8,10 +8,11 @@ use native.Mathlib.Omega.{arith}
 use lib.ListN.{length, length-append}
 use Rattle.format.specs.Bytes.{joined}
 use Rattle.squeeze_spec.specs.Uses.{isFirst}
-use Rattle.squeeze_spec.specs.Squeezed.{nthRecord, nthName, keptUpTo}
+use Rattle.format.specs.Chain.{nthRecord, nthName}
+use Rattle.squeeze_spec.specs.Squeezed.{keptUpTo}
 use Rattle.squeeze_spec.specs.Laws.Uses.{stored-first, stored-later}
-use Rattle.squeeze_order.specs.Cursor.{At}
-use Rattle.squeeze_order.specs.declared.Cursor.{Cursor}
+use Rattle.in_order.specs.Cursor.{At}
+use Rattle.in_order.specs.declared.Cursor.{Cursor}
 use Rattle.squeeze_icons.specs.Staying.{Seeking}
 
 module _ {s : List ℕ} where

@@ -20,9 +20,10 @@ use Rattle.tables.specs.Laws.{valid-header}
 use Rattle.tables.specs.Tables.{Sound}
 use Rattle.tables.specs.declared.Tables.{Tables}
 use Rattle.gathering.specs.Laws.Repeats.{ahead-link}
-use Rattle.squeeze_spec.specs.Squeezed.{nthName}
-use Rattle.squeeze_spec.specs.Laws.Order.{chainLength, StandsAt, chain-length, order-length, step-in-order, first-on-chain, none-below-first}
-use Rattle.squeeze_order.specs.Laws.{records-few}
+use Rattle.format.specs.Chain.{nthName}
+use Rattle.format.specs.Laws.InOrder.{chainLength, StandsAt, chain-length, order-length, step-in-order}
+use Rattle.squeeze_spec.specs.Laws.Order.{first-on-chain, none-below-first}
+use Rattle.in_order.specs.Laws.{records-few}
 use Rattle.squeeze_names.specs.Repeated.{Adds, amongBefore, comesAgain, RepeatsMarked}
 use Rattle.squeeze_names.specs.Laws.Adds.{adds-none, adds-behind}
 

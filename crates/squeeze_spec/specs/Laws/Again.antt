@@ -14,7 +14,7 @@ use Rattle.format.specs.Layout.{endValue}
 use Rattle.format.specs.Number.{be}
 use Rattle.format.specs.Header.{buckets, directories, pathOf}
 use Rattle.format.specs.Record.{nameOf}
-use Rattle.format.specs.Chain.{allRecords}
+use Rattle.format.specs.Chain.{allRecords, nthRecord, nthName}
 use Rattle.format.specs.Words.{link, Accepted}
 use Rattle.format.specs.declared.Reading.the-variants.{Short}
 use Rattle.catalogue.specs.Catalogue.{Catalogue, Good, catalogueIs}
@@ -26,10 +26,10 @@ use Rattle.catalogue.specs.Laws.Chains.{IconAtStep, ChainOf, chain-of}
 use Rattle.catalogue.specs.Laws.Serves.{one-icon, lays-accepted}
 use Rattle.catalogue.specs.Laws.Rising.{Rises, has-some, some-has, firsts-are, rising-are}
 use Rattle.catalogue.specs.Laws.Listed.{listed-back}
-use Rattle.squeeze_spec.specs.Squeezed.{nthRecord, nthName, keptRecords, contents}
+use Rattle.squeeze_spec.specs.Squeezed.{keptRecords, contents}
 use Rattle.squeeze_spec.specs.Laws.Uses.{new-first}
 use Rattle.squeeze_spec.specs.Laws.Picked.{all-picked}
-use Rattle.squeeze_spec.specs.Laws.Order.{in-order, order-of, chain-length, chain-lengths, chainLength}
+use Rattle.format.specs.Laws.InOrder.{in-order, order-of, chain-length, chain-lengths, chainLength}
 use Rattle.squeeze_spec.specs.Laws.Contents.{BucketsRise}
 
 -- the first of bucket k from the i-th icon on is the end value or the record of such an icon

@@ -7,15 +7,16 @@ use native.Mathlib.Omega.{arith}
 use lib.ListN.{length, getD, length-map}
 use Rattle.format.specs.Header.{buckets}
 use Rattle.format.specs.Record.{nameOf, bucketOf}
-use Rattle.format.specs.Chain.{allRecords}
+use Rattle.format.specs.Chain.{allRecords, nthRecord, nthName}
 use Rattle.format.specs.Words.{link, Keeps, Accepted, NoneBelow, sum}
 use Rattle.format.specs.declared.Reading.the-variants.{Short}
 use Rattle.catalogue.specs.Catalogue.{NoneTwice}
 use Rattle.catalogue.specs.Laws.Names.{map-at}
-use Rattle.squeeze_spec.specs.Squeezed.{nthRecord, nthName, keptRecords}
+use Rattle.squeeze_spec.specs.Squeezed.{keptRecords}
 use Rattle.squeeze_spec.specs.Laws.Uses.{first-new}
 use Rattle.squeeze_spec.specs.Laws.Picked.{Picked, picked}
-use Rattle.squeeze_spec.specs.Laws.Order.{in-order, step-in-order, below-length, buckets-rise, first-on-chain, chainLength}
+use Rattle.format.specs.Laws.InOrder.{in-order, step-in-order, below-length, buckets-rise, chainLength}
+use Rattle.squeeze_spec.specs.Laws.Order.{first-on-chain}
 
 module _ {s : List ℕ} (acc : Accepted Short s) where
   pub kept-picked : Picked (nthName s) (nthRecord s) (length (allRecords Short s)) (keptRecords s)

@@ -38,7 +38,7 @@ use Rattle.squeeze_spec.specs.Laws.Uses.{first-with}
 use Rattle.squeeze_spec.specs.Laws.Kept.{kept-on-chain, met-kept}
 use Rattle.squeeze_spec.specs.Laws.Contents.{icon-count, icon-is, some-bucket}
 use Rattle.squeeze_spec.specs.Laws.Same.{Gives, Lacks, same-given, same-lacking, lacks-by, unallowed}
-use Rattle.squeeze_spec.specs.Laws.Order.{chain-lengths, chainLength}
+use Rattle.format.specs.Laws.InOrder.{chain-lengths, chainLength}
 
 -- a lookup that meets the record r gives its images
 gives-met : (s name : List ℕ) (r o : ℕ) → ((room : ℕ) → lookup s name room ≡ foundAnswer s room r o) → Gives s name (iconOf s r .images)

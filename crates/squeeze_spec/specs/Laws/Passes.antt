@@ -10,7 +10,7 @@ use borrow.Author.Tests.{eq-eqb, ne-eqb}
 use lib.ListN.{length, getD, length-append, List·getD-append}
 use lib.Seq.{getD-at}
 use Rattle.format.specs.Layout.{endValue, entryField}
-use Rattle.format.specs.Chain.{allRecords}
+use Rattle.format.specs.Chain.{allRecords, nthRecord, nthName}
 use Rattle.format.specs.declared.Reading.the-variants.{Short}
 use Rattle.catalogue.specs.Catalogue.{Catalogue, names, NoneTwice}
 use Rattle.catalogue.specs.LaidOut.{nthPath, nthIcon, iconBucket, Places}
@@ -18,7 +18,7 @@ use Rattle.catalogue.specs.Append.{lastIn, leadField}
 use Rattle.catalogue.specs.Laws.Serves.{one-icon}
 use Rattle.squeeze_spec.specs.Uses.{isFirst, firstUse}
 use Rattle.squeeze_spec.specs.Packed.{nthString}
-use Rattle.squeeze_spec.specs.Squeezed.{nthRecord, nthName, keptUpTo, keptRecords}
+use Rattle.squeeze_spec.specs.Squeezed.{keptUpTo, keptRecords}
 use Rattle.squeeze_spec.specs.Laws.Uses.{use-is, stored-first, stored-later}
 use Rattle.squeeze_spec.specs.Laws.Packed.{path-string, name-string}
 use Rattle.squeeze_spec.specs.Laws.Contents.{BucketsRise}

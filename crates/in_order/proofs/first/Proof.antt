@@ -1,13 +1,13 @@
--- `squeeze_order::first` meets its contract: there is a first bucket.
+-- `in_order::first` meets its contract: there is a first bucket.
 use mathlib.Core.Path.{ap, _∙_}
 use native.Mathlib.Omega.{arith}
 use borrow.Author.Needs.{needs}
 use denote.Ref.{now}
 use Rattle.format.specs.Number.{be}
 use Rattle.tables.specs.Laws.{same-field, field-inside, valid-header}
-use Rattle.squeeze_order.specs.Laws.{before-first}
-use Rattle.squeeze_order.proofs.first.Statement.{statement}
-use Rattle.squeeze_order.proofs.first.Tie as tie
+use Rattle.in_order.specs.Laws.{before-first}
+use Rattle.in_order.proofs.first.Statement.{statement}
+use Rattle.in_order.proofs.first.Tie as tie
 
 u32-at-requires : tie.Need-u32-at-requires
 u32-at-requires c κs =

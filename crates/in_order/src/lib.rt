@@ -2,7 +2,7 @@
 ghost use mathlib.Core.Path.{_≡_};
 ghost use Prim.Native.Nat.{_+_};
 ghost use Rattle.tables.specs.Tables.{Sound};
-ghost use Rattle.squeeze_order.specs.Cursor.{Before, At, Real};
+ghost use Rattle.in_order.specs.Cursor.{Before, At, Real};
 use bigendian::u32_at;
 use tables::Tables;
 use tables::bucket_field;

@@ -5,12 +5,11 @@ use mathlib.Core.List.{List}
 use lib.ListN.{length}
 use Rattle.format.specs.Layout.{endValue}
 use Rattle.format.specs.Header.{buckets}
-use Rattle.format.specs.Chain.{allRecords}
+use Rattle.format.specs.Chain.{allRecords, nthRecord}
 use Rattle.format.specs.Words.{link, sum}
 use Rattle.format.specs.declared.Reading.the-variants.{Short}
-use Rattle.squeeze_spec.specs.Squeezed.{nthRecord}
-use Rattle.squeeze_spec.specs.Laws.Order.{chainLength, StandsAt}
-use Rattle.squeeze_order.specs.declared.Cursor.{Cursor}
+use Rattle.format.specs.Laws.InOrder.{chainLength, StandsAt}
+use Rattle.in_order.specs.declared.Cursor.{Cursor}
 
 -- r is an offset, not the end value
 abbrev pub Real : ℕ → Type 0

@@ -1,12 +1,12 @@
--- `squeeze_order::next` meets its contract: the field of the record at hand leads on.
+-- `in_order::next` meets its contract: the field of the record at hand leads on.
 use native.Mathlib.Omega.{arith}
 use borrow.Author.Needs.{needs}
 use denote.Ref.{now}
 use Rattle.tables.specs.Laws.{valid-header}
-use Rattle.squeeze_order.specs.Cursor.{Here}
-use Rattle.squeeze_order.specs.Laws.{records-few, behind, here-inside, here-below}
-use Rattle.squeeze_order.proofs.next.Statement.{statement}
-use Rattle.squeeze_order.proofs.next.Tie as tie
+use Rattle.in_order.specs.Cursor.{Here}
+use Rattle.in_order.specs.Laws.{records-few, behind, here-inside, here-below}
+use Rattle.in_order.proofs.next.Statement.{statement}
+use Rattle.in_order.proofs.next.Tie as tie
 
 -- the record at hand
 here : (c : tie.Start) → Here (now (c .args .cache)) (c .args .cursor .number) (c .args .cursor .bucket) (c .args .cursor .«record»)

@@ -8,11 +8,11 @@ use Rattle.format.specs.Layout.{endValue}
 use Rattle.format.specs.Number.{be}
 use Rattle.format.specs.Header.{buckets, bucketField}
 use Rattle.format.specs.Chain.{allRecords}
-use Rattle.format.specs.Words.{link, Holds, Accepted, sum}
+use Rattle.format.specs.Words.{link, Keeps, Holds, Accepted, sum}
 use Rattle.format.specs.declared.Reading.the-variants.{Short}
 use Rattle.format.specs.Laws.Demand.{demand3}
-use Rattle.squeeze_spec.specs.Laws.Order.{chainLength, StandsAt, chain-lengths, order-length, step-in-order, below-length}
-use Rattle.squeeze_order.specs.Cursor.{Real, Before, Here}
+use Rattle.format.specs.Laws.InOrder.{chainLength, StandsAt, chain-lengths, order-length, step-in-order, below-length}
+use Rattle.in_order.specs.Cursor.{Real, Before, Here}
 
 module _ {s : List ℕ} (acc : Accepted Short s) where
   -- there are no more records than bytes
@@ -65,8 +65,11 @@ module _ {s : List ℕ} (acc : Accepted Short s) where
           field = read ∙ ap (be 4 s) (h .is ∙ a .named);
         }
 
+    pub here-keeps : Keeps Short s k r
+    here-keeps = rw (← h .is) at (h .stands .keeps)
+
     pub here-inside : r + 12 ≤ length s
-    here-inside = rw (h .is) (h .stands .keeps .inside)
+    here-inside = here-keeps .inside
 
     pub here-below : n < length (allRecords Short s)
     here-below = below-length acc (h .stands)

@@ -1,4 +1,4 @@
--- `squeeze_order::settle` meets its contract: while the chain has ended, the next bucket's field is
+-- `in_order::settle` meets its contract: while the chain has ended, the next bucket's field is
 -- read.
 use Prim.Native.Nat.{suc, _+_, _-_, _<_}
 use mathlib.Core.Path.{_≡_, refl, ap, _∙_}
@@ -9,10 +9,10 @@ use denote.Ref.{now}
 use Rattle.format.specs.Header.{buckets}
 use Rattle.format.specs.Number.{be}
 use Rattle.tables.specs.Laws.{same-buckets, same-field, field-inside, valid-header}
-use Rattle.squeeze_order.specs.Cursor.{Before}
-use Rattle.squeeze_order.specs.Laws.{before-here, before-next, before-all}
-use Rattle.squeeze_order.proofs.settle.Statement.{statement}
-use Rattle.squeeze_order.proofs.settle.Tie as tie
+use Rattle.in_order.specs.Cursor.{Before}
+use Rattle.in_order.specs.Laws.{before-here, before-next, before-all}
+use Rattle.in_order.proofs.settle.Statement.{statement}
+use Rattle.in_order.proofs.settle.Tie as tie
 
 abbrev Inv-loop : tie.InvT-loop
 Inv-loop cache t number bucket «record» k₀ named₀ k named = Before cache number k named
