@@ -1,15 +1,12 @@
 // The calls of document 01 over one lent buffer that holds an icon theme cache. Each takes any
 // buffer, any name and any number, and says its whole answer by a definition of the crate `format`.
 ghost use mathlib.Core.Path.{_≡_};
-ghost use Prim.Native.Nat.{_+_, _*_, _≤_};
 ghost use lib.ListN.{length};
-ghost use Rattle.format.specs.Record.{imagesAt, images};
 ghost use Rattle.format.specs.Answer.{partIs};
-ghost use Rattle.format.specs.Call.{foundAnswer, answerWords, lookupWords, directoryPart, directoryPath};
+ghost use Rattle.format.specs.Call.{lookupWords, directoryPart, directoryPath};
 ghost use Rattle.format.specs.Call as calls;
 ghost use Rattle.format.specs.Demand.{CheckDemand, LookupKept, LongestDemand, OpensWithin};
 ghost use Rattle.format.specs.declared.Reading.the-variants.{Short, Long};
-use bigendian::u32_at;
 use checking::check_buckets;
 use checking::refused;
 use checking::unfound;
@@ -20,6 +17,7 @@ use format::Fault;
 use format::Found;
 use format::LookupAnswer;
 use format::Reading;
+use records::with_images;
 
 // The check by the short reading. It is a call of its own so that it carries nothing of the long
 // one.
@@ -78,33 +76,6 @@ pub fn find(cache: &[u8], name: &[u8]) -> Found
     let t = tables::read(cache);
     let bucket = query.hash % t.buckets;
     search::search(cache, t, bucket, name)
-}
-
-// The answer with the images of `record`, after `opened` records. They go into `words` if there is
-// room for all.
-fn with_images(cache: &[u8], record: usize, opened: usize, words: &mut [u32]) -> LookupAnswer
-    requires { ⌜ «record» + 12 ≤ length (now cache) ⌝ }
-    requires { ⌜ imagesAt (now cache) «record» + 4 + 8 * images (now cache) «record» ≤ length (now cache) ⌝ }
-    ensures answer { λ r. ⌜ r ≡ foundAnswer (now (cache .entry)) (length (now (words .entry))) «record» opened ⌝ }
-    ensures lent { λ r. ⌜ now (words .exit) ≡ answerWords (now (cache .entry)) (now (words .entry)) r ⌝ }
-{
-    let at = u32_at(cache, record + 8) as usize;
-    let images = u32_at(cache, at) as usize;
-    if words.len() < 2 * images {
-        return LookupAnswer {
-            number: 14,
-            place: at,
-            images,
-            opened,
-        };
-    }
-    records::write_images(cache, at + 4, images, words);
-    LookupAnswer {
-        number: 0,
-        place: record,
-        images,
-        opened,
-    }
 }
 
 // Looks for the first record that bears `name`, on the chain of the name's bucket alone. Found with

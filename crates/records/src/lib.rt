@@ -1,5 +1,5 @@
-// An icon record of a cache: rules 8 to 11 and 17, whether it bears a name, and the words of its
-// images.
+// An icon record of a cache: rules 8 to 11 and 17, whether it bears a name, the words of its images,
+// and the answer of a lookup that found it.
 ghost use mathlib.Core.Path.{_≡_};
 ghost use mathlib.Core.List.{_++_};
 ghost use mathlib.Core.Bool.{true};
@@ -9,7 +9,8 @@ ghost use Rattle.format.specs.Number.{be};
 ghost use Rattle.format.specs.Fault.{noFault};
 ghost use Rattle.format.specs.String.{allowed};
 ghost use Rattle.format.specs.Header.{directories};
-ghost use Rattle.format.specs.Record.{namePart, bearsName, validImageList, validImage, imagesFault, nameFault, listFault, recordFault, firstWord, imageWords};
+ghost use Rattle.format.specs.Record.{namePart, bearsName, imagesAt, images, validImageList, validImage, imagesFault, nameFault, listFault, recordFault, firstWord, imageWords};
+ghost use Rattle.format.specs.Call.{foundAnswer, answerWords};
 ghost use Rattle.format.specs.declared.Reading.the-variants.{Short};
 ghost use Rattle.tables.specs.Tables.{TablesOf};
 ghost use Rattle.records.specs.ValidWords.{validWords};
@@ -17,6 +18,7 @@ use bigendian::u16_at;
 use bigendian::u32_at;
 use format::Extent;
 use format::Fault;
+use format::LookupAnswer;
 use std::num::wrapping_sub_u32;
 use tables::Tables;
 use tables::list_inside;
@@ -201,5 +203,32 @@ pub fn write_images(cache: &[u8], at: usize, m: usize, words: &mut [u32])
         let image = at + 8 * i;
         words[2 * i] = first_word(cache, image);
         words[2 * i + 1] = u32_at(cache, image + 4);
+    }
+}
+
+// The answer with the images of `record`, after `opened` records. They go into `words` if there is
+// room for all.
+pub fn with_images(cache: &[u8], record: usize, opened: usize, words: &mut [u32]) -> LookupAnswer
+    requires { ⌜ «record» + 12 ≤ length (now cache) ⌝ }
+    requires { ⌜ imagesAt (now cache) «record» + 4 + 8 * images (now cache) «record» ≤ length (now cache) ⌝ }
+    ensures answer { λ r. ⌜ r ≡ foundAnswer (now (cache .entry)) (length (now (words .entry))) «record» opened ⌝ }
+    ensures lent { λ r. ⌜ now (words .exit) ≡ answerWords (now (cache .entry)) (now (words .entry)) r ⌝ }
+{
+    let at = u32_at(cache, record + 8) as usize;
+    let images = u32_at(cache, at) as usize;
+    if words.len() < 2 * images {
+        return LookupAnswer {
+            number: 14,
+            place: at,
+            images,
+            opened,
+        };
+    }
+    write_images(cache, at + 4, images, words);
+    LookupAnswer {
+        number: 0,
+        place: record,
+        images,
+        opened,
     }
 }

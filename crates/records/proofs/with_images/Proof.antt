@@ -1,4 +1,4 @@
--- `icon_cache::with_images` meets its contract: the room decides between the two answers
+-- `records::with_images` meets its contract: the room decides between the two answers
 -- (`found-short`, `found-enough`), and with enough of it what `write_images` leaves in the words is
 -- what the definition asks for.
 use mathlib.Core.Path.{_≡_, refl, ap, sym, _∙_}
@@ -9,8 +9,8 @@ use Rattle.format.specs.Number.{be}
 use Rattle.format.specs.Record.{imagesAt, images}
 use Rattle.format.specs.Call.{answerWords}
 use Rattle.format.specs.Laws.Lookup.{found-short, found-enough}
-use Rattle.icon_cache.proofs.with_images.Statement.{statement}
-use Rattle.icon_cache.proofs.with_images.Tie as tie
+use Rattle.records.proofs.with_images.Statement.{statement}
+use Rattle.records.proofs.with_images.Tie as tie
 
 list-at : (c : tie.After-u32-at) → let a = c .before .before .before .args in c .u32-at .result ≡ imagesAt (now (a .cache)) (a .«record»)
 list-at c = c .u32-at .ensures
