@@ -1,7 +1,8 @@
 /*
  * Checks a cache in both ways, prints the images of one icon, each with its directory, flags and
- * notes, two short pages of the icons, and which image of the icon is picked for some sizes, lists
- * the cache as a catalogue and writes it again, and saves what is sound of it: example CACHE NAME
+ * notes, how many records a plain lookup of it tries, two short pages of the icons, and which image
+ * of the icon is picked for some sizes, lists the cache as a catalogue and writes it again, and saves
+ * what is sound of it: example CACHE NAME
  */
 #include "icon_cache.h"
 
@@ -188,6 +189,23 @@ static int lookup(const char *name)
 }
 
 /*
+ * The same without the hash: the whole cache is checked, then its records are tried one by one. The
+ * words hold the same images.
+ */
+static void plain_lookup(const char *name)
+{
+    size_t place, images, opened;
+    uint32_t number = icon_cache_plain_lookup(cache, cache_len, (const uint8_t *)name, strlen(name),
+                                              words, sizeof words / sizeof words[0], &place,
+                                              &images, &opened);
+    if (number != 0) {
+        printf("plain lookup: answer %u at %zu, %zu tried\n", (unsigned)number, place, opened);
+    } else {
+        printf("plain lookup: record at %zu, %zu tried\n", place, opened);
+    }
+}
+
+/*
  * Whatever the cache, the name of a record that was handed back lies inside, and a zero byte ends
  * it.
  */
@@ -357,6 +375,7 @@ int main(int argc, char **argv)
     int refused = check();
     check_long();
     int not_found = lookup(argv[2]);
+    plain_lookup(argv[2]);
     list(); /* what it refuses, the check has refused too */
     pick_some(argv[2]);
     write_again();

@@ -202,6 +202,30 @@ uint32_t icon_cache_lookup(const uint8_t *cache, size_t cache_len,
                            uint32_t *words, size_t words_len,
                            size_t *place, size_t *images, size_t *opened);
 
+/*
+ * A lookup for the classroom. It ignores the hash: it tries the records of all
+ * buckets, in the order in which the check meets them, until one bears `name`.
+ *
+ * In this order it refuses
+ *
+ *    13  the name asked for, at 0
+ *        what icon_cache_check refuses, at the same places and with *opened 0:
+ *        also where icon_cache_lookup would find the name
+ *    14  too little room for the images, at the image list
+ *
+ * If the check accepts the cache, the number, *place, *images and the words are
+ * those of icon_cache_lookup, whatever the name and the room. Only *opened
+ * differs. With 0 and 14 it is how many records were tried, the one found among
+ * them; with 30 it is how many icons there are. With 13 too it is 0.
+ *
+ * Each call costs the whole check, and then the records up to the one found, or
+ * all of them where none bears the name. Screens ask icon_cache_lookup.
+ */
+uint32_t icon_cache_plain_lookup(const uint8_t *cache, size_t cache_len,
+                                 const uint8_t *name, size_t name_len,
+                                 uint32_t *words, size_t words_len,
+                                 size_t *place, size_t *images, size_t *opened);
+
 /* Whether there is a directory `index` with a good path. */
 uint32_t icon_cache_directory(const uint8_t *cache, size_t cache_len, size_t index, size_t *place);
 

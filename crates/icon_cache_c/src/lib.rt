@@ -7,6 +7,7 @@ ghost use lib.ListN.{length};
 ghost use Rattle.format.specs.Answer.{checked, lookedUp, directoryIs, partIs};
 ghost use Rattle.format.specs.Call.{check, lookup, lookupWords, directory, directoryPart};
 ghost use Rattle.format.specs.declared.Reading.the-variants.{Short, Long};
+ghost use Rattle.plain_lookup.specs.Plain.{plainLookup, plainWords};
 ghost use Rattle.pick.specs.Pick.{pickIs, pick};
 ghost use Rattle.listing.specs.Listing.{position, step, stepIs};
 ghost use Rattle.flags.specs.Flags.{flagsIs, flagsIn, flagsOut};
@@ -83,6 +84,25 @@ pub extern "C" fn icon_cache_lookup(
     *images = answer.images;
     *opened = answer.opened;
     answer.number
+}
+
+#[no_mangle]
+pub extern "C" fn icon_cache_plain_lookup(
+    cache: &[u8],
+    name: &[u8],
+    words: &mut [u32],
+    place: &mut usize,
+    images: &mut usize,
+    opened: &mut usize,
+) -> u32
+    ensures answer { λ r. ⌜ lookedUp r (now (place .exit)) (now (images .exit)) (now (opened .exit)) ≡ plainLookup (now (cache .entry)) (now (name .entry)) (length (now (words .entry))) ⌝ }
+    ensures lent { λ r. ⌜ now (words .exit) ≡ plainWords (now (cache .entry)) (now (name .entry)) (now (words .entry)) ⌝ }
+{
+    let tried = plain_lookup::plain_lookup(cache, name, words);
+    *place = tried.place;
+    *images = tried.images;
+    *opened = tried.opened;
+    tried.number
 }
 
 #[no_mangle]
