@@ -2,10 +2,11 @@
 //!
 //! The cache is a lent byte slice; nothing in it is trusted. [`check`] judges
 //! the whole cache, [`check_long`] also what is noted on its images, and the module
-//! [`notes`] reads that. [`lookup`] finds the images of one icon name, [`directory`]
-//! gives the path of one directory index, [`records`] hands back all icon records,
-//! and [`records_from`] those from a [`Position`] on. [`Flags`] names the flags of
-//! an image by the [`Numbering`] of the cache's generator. [`pick`] chooses the
+//! [`notes`] reads that. [`lookup`] finds the images of one icon name, and so does
+//! [`plain_lookup`], which is there for teaching. [`directory`] gives the path of one
+//! directory index, [`records`] hands back all icon records, and [`records_from`] those
+//! from a [`Position`] on. [`Flags`] names the flags of an image by the [`Numbering`]
+//! of the cache's generator. [`pick`] chooses the
 //! image of an icon for a size; what the directories are made for is told by
 //! the words that a [`Theme`] gives. [`write`] makes a cache from a [`Catalogue`],
 //! [`catalogue_of`] lists a cache as one, and [`salvage`] lists what is sound of a
@@ -112,7 +113,7 @@ pub struct Found {
     pub record: usize,
     /// Its images, in the order of its image list.
     pub images: Vec<Image>,
-    /// How many icon records the lookup opened.
+    /// How many icon records the lookup opened; of [`plain_lookup`], how many it tried.
     pub opened: usize,
 }
 
@@ -205,14 +206,46 @@ fn checked(answer: raw::Check) -> Result<Checked, Refusal> {
 /// assert_eq!(refusal.number, Refusal::ABSENT);
 /// ```
 pub fn lookup(cache: &[u8], name: &[u8]) -> Result<Found, Refusal> {
+    lookup_by(raw::lookup, cache, name)
+}
+
+/// Looks up one icon name without its hash, as one does it in a classroom: the records
+/// of all buckets are tried one by one, in the order of [`records`].
+///
+/// The whole cache is checked first, and what [`check`] refuses is refused here with the
+/// same number and place and no record tried, also where [`lookup`] would find the name.
+/// In a cache that [`check`] accepts both find the same record and images;
+/// [`opened`](Found::opened) is the number of records tried, and where there is no icon
+/// of this name that of all icons.
+///
+/// ```
+/// use icon_cache::{lookup, plain_lookup, Refusal, FARM_CACHE};
+///
+/// let cow = lookup(FARM_CACHE, b"cow").unwrap();
+/// let tried = plain_lookup(FARM_CACHE, b"cow").unwrap();
+/// assert_eq!((tried.record, &tried.images), (cow.record, &cow.images));
+/// assert_eq!((tried.opened, cow.opened), (3, 1));
+///
+/// let refusal = plain_lookup(FARM_CACHE, b"pig").unwrap_err();
+/// assert_eq!((refusal.number, refusal.opened), (Refusal::ABSENT, 3));
+/// ```
+pub fn plain_lookup(cache: &[u8], name: &[u8]) -> Result<Found, Refusal> {
+    lookup_by(raw::plain_lookup, cache, name)
+}
+
+fn lookup_by(
+    call: impl Fn(&[u8], &[u8], &mut [u32]) -> raw::Lookup,
+    cache: &[u8],
+    name: &[u8],
+) -> Result<Found, Refusal> {
     let mut usual = [0; 2 * USUAL_IMAGES];
-    let answer = raw::lookup(cache, name, &mut usual);
+    let answer = call(cache, name, &mut usual);
     if answer.number != Refusal::NO_ROOM {
         return found(answer, &usual);
     }
     // This answer says how many images there are.
     let mut words = vec![0; 2 * answer.images];
-    found(raw::lookup(cache, name, &mut words), &words)
+    found(call(cache, name, &mut words), &words)
 }
 
 /// Few icons have more images, so one call is mostly enough.

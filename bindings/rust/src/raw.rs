@@ -19,7 +19,7 @@ pub struct Check {
     pub longest: usize,
 }
 
-/// The answer of [`lookup`].
+/// The answer of [`lookup`] and [`plain_lookup`].
 #[derive(Clone, Copy, Debug, PartialEq, Eq)]
 pub struct Lookup {
     /// The answer number, 0 for a name found.
@@ -251,6 +251,18 @@ mod c {
             opened: *mut usize,
         ) -> u32;
 
+        pub fn icon_cache_plain_lookup(
+            cache: *const u8,
+            cache_len: usize,
+            name: *const u8,
+            name_len: usize,
+            words: *mut u32,
+            words_len: usize,
+            place: *mut usize,
+            images: *mut usize,
+            opened: *mut usize,
+        ) -> u32;
+
         pub fn icon_cache_directory(
             cache: *const u8,
             cache_len: usize,
@@ -424,10 +436,35 @@ fn check_by(call: CheckCall, cache: &[u8]) -> Check {
     }
 }
 
+/// A lookup of the library: `icon_cache_lookup` or `icon_cache_plain_lookup`.
+type LookupCall = unsafe extern "C" fn(
+    cache: *const u8,
+    cache_len: usize,
+    name: *const u8,
+    name_len: usize,
+    words: *mut u32,
+    words_len: usize,
+    place: *mut usize,
+    images: *mut usize,
+    opened: *mut usize,
+) -> u32;
+
 /// Looks up one icon name. Two words are needed for each image; with any other
 /// number than 0 the words stay as they were.
 #[inline]
 pub fn lookup(cache: &[u8], name: &[u8], words: &mut [u32]) -> Lookup {
+    lookup_by(c::icon_cache_lookup, cache, name, words)
+}
+
+/// Looks up one icon name without its hash: the whole cache is checked, then its records
+/// are tried one by one. The words are lent as for [`lookup`].
+#[inline]
+pub fn plain_lookup(cache: &[u8], name: &[u8], words: &mut [u32]) -> Lookup {
+    lookup_by(c::icon_cache_plain_lookup, cache, name, words)
+}
+
+#[inline(always)]
+fn lookup_by(call: LookupCall, cache: &[u8], name: &[u8], words: &mut [u32]) -> Lookup {
     let mut no_words = 0;
     let mut place = UNWRITTEN;
     let mut images = UNWRITTEN;
@@ -435,7 +472,7 @@ pub fn lookup(cache: &[u8], name: &[u8], words: &mut [u32]) -> Lookup {
     // SAFETY: the pointers are valid for the lengths given and for this call,
     // and only the lent words and the three numbers are written.
     let number = unsafe {
-        c::icon_cache_lookup(
+        call(
             address(cache),
             cache.len(),
             address(name),

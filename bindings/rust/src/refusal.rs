@@ -32,7 +32,9 @@ pub struct Refusal {
     /// [`Catalogue`](crate::Catalogue), which open none, and from
     /// [`Records`](crate::Records), [`pick`](crate::pick),
     /// [`catalogue_of`](crate::catalogue_of), [`salvage`](crate::salvage()) and
-    /// [`squeeze`](crate::squeeze()), which don't count them.
+    /// [`squeeze`](crate::squeeze()), which don't count them. From
+    /// [`plain_lookup`](crate::plain_lookup) it is the number of records tried, and 0
+    /// where the cache or the name is refused.
     pub opened: usize,
 }
 

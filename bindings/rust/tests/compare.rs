@@ -127,6 +127,8 @@ struct Comparison<'a> {
     positions: Vec<Position>,
     /// Whether only image data is damaged, which few calls read.
     of_notes: bool,
+    /// How many names were asked of the plain lookup.
+    tried: usize,
     counts: Counts,
     /// The first difference.
     report: Option<String>,
@@ -142,6 +144,7 @@ impl<'a> Comparison<'a> {
             names: Vec::new(),
             positions: Vec::new(),
             of_notes: false,
+            tried: 0,
             counts: Counts::default(),
             report: None,
         }
@@ -273,7 +276,9 @@ impl<'a> Comparison<'a> {
         if self.of_notes && !self.random.one_in(OTHERS) {
             return Ok(());
         }
-        for (i, name) in self.queries(lent).iter().enumerate() {
+        let names = self.queries(lent);
+        self.ask_plain_lookup(&cache, &names)?;
+        for (i, name) in names.iter().enumerate() {
             self.ask_lookup(&cache, name, i == 0)?;
             // The first name is mostly there. A case with its own positions has few names.
             let of_case = !self.positions.is_empty() && self.names.contains(name);
@@ -467,6 +472,26 @@ impl<'a> Comparison<'a> {
         Ok(())
     }
 
+    /// Asks one of the names without its hash, each time another one. Each call checks the
+    /// whole cache, so of a large one that costs too much.
+    fn ask_plain_lookup(&mut self, cache: &Asked, names: &[Vec<u8>]) -> Result<(), Difference> {
+        if cache.lent.len() > LARGE && cache.check.opened > 0 {
+            return Ok(());
+        }
+        self.tried += 1;
+        let name = &names[self.tried % names.len()];
+        let (answer, _) = cache.pair.plain_lookup(name, 0)?;
+        self.counts.plain.note(answer.number);
+        cache.demand_alike(name, 0, &answer)?;
+        if answer.number == 14 {
+            let room = 2 * answer.images;
+            let (answer, _) = cache.pair.plain_lookup(name, room)?;
+            self.counts.plain.note(answer.number);
+            cache.demand_alike(name, room, &answer)?;
+        }
+        Ok(())
+    }
+
     /// Only a chain of several records tells the longest from any other.
     fn note_longest(&mut self, cache: &Asked, answer: &reader::Lookup) {
         let longest = cache.check.longest;
@@ -592,6 +617,28 @@ impl Asked<'_> {
             call: "lookup in an accepted cache".into(),
             library: format!("{answer:?}"),
             reader: format!("the longest chain has {} records", self.check.longest),
+        })
+    }
+
+    /// In an accepted cache both lookups answer alike, but for the records opened.
+    fn demand_alike(
+        &self,
+        name: &[u8],
+        room: usize,
+        plain: &reader::Lookup,
+    ) -> Result<(), Difference> {
+        if self.check.number != 0 {
+            return Ok(());
+        }
+        let (ordinary, _) = self.pair.lookup(name, room)?;
+        let opened = plain.opened;
+        if *plain == (reader::Lookup { opened, ..ordinary }) {
+            return Ok(());
+        }
+        Err(Difference {
+            call: format!("plain lookup {name:02x?} in an accepted cache"),
+            library: format!("{plain:?}"),
+            reader: format!("{ordinary:?} by the hash"),
         })
     }
 

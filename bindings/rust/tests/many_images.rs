@@ -1,7 +1,7 @@
 //! The safe lookup of icons with many images. It has room for 32 at once and
 //! asks again for more.
 
-use icon_cache::{lookup, Found, Image};
+use icon_cache::{lookup, plain_lookup, Found, Image};
 
 /// Images that all differ, so that each must stand in its place.
 fn images(count: usize) -> Vec<Image> {
@@ -40,7 +40,10 @@ fn demand_found(count: usize) {
         images: images.clone(),
         opened: 2,
     };
-    assert_eq!(lookup(&cache(&images), b"n"), Ok(expected), "{count}");
+    let cache = cache(&images);
+    assert_eq!(lookup(&cache, b"n").as_ref(), Ok(&expected), "{count}");
+    // "m" is tried before it, as by the hash.
+    assert_eq!(plain_lookup(&cache, b"n"), Ok(expected), "{count}");
 }
 
 #[test]

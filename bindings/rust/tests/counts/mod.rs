@@ -232,6 +232,7 @@ pub struct Counts {
     pub on_purpose: OnPurpose,
     pub check: Answers,
     pub lookup: Answers,
+    pub plain: Answers,
     pub directory: Answers,
     pub path: Answers,
     pub list: Answers,
@@ -264,6 +265,7 @@ impl Counts {
         self.meetings.add(&other.meetings);
         self.check.add(&other.check);
         self.lookup.add(&other.lookup);
+        self.plain.add(&other.plain);
         self.directory.add(&other.directory);
         self.path.add(&other.path);
         self.list.add(&other.list);
@@ -276,19 +278,21 @@ impl Counts {
     }
 
     /// The counts of each call, and the numbers it can answer.
-    fn calls(&self) -> [(&str, &Answers, Vec<usize>); 11] {
+    fn calls(&self) -> [(&str, &Answers, Vec<usize>); 12] {
         let lookup = [0, 1, 2, 3, 4, 5, 7, 8, 9, 10, 11, 12, 13, 14, 17, 30];
         let directory = [0, 1, 2, 3, 4, 5, 6, 15, 16, 17];
         let list = [0, 1, 2, 3, 4, 5, 7, 8, 9, 10, 11, 17, 26, 28];
         let pick = [0, 1, 2, 3, 4, 5, 7, 8, 9, 10, 11, 12, 13, 17, 30, 31, 32];
         let check = (0..=12).chain([16, 17]);
         let check_long = check.clone().chain(22..=24);
+        let plain = check.clone().chain([13, 14, 30]);
         let note = [0, 1, 2, 22, 33];
         let text = [0, 1, 2, 22, 24, 33];
         [
             ("check", &self.check, check.collect()),
             ("long check", &self.check_long, check_long.collect()),
             ("lookup", &self.lookup, lookup.into()),
+            ("plain lookup", &self.plain, plain.collect()),
             ("directory", &self.directory, directory.into()),
             ("path", &self.path, directory.into()),
             ("list", &self.list, list.into()),
@@ -311,11 +315,11 @@ impl Counts {
         println!("{} made sound, {caches} damaged on purpose", self.sound);
         println!("with up to {directories} directories and {buckets} buckets");
         let calls = self.calls();
-        let heads = calls.each_ref().map(|(call, ..)| format!("{call:>12}"));
+        let heads = calls.each_ref().map(|(call, ..)| format!("{call:>13}"));
         println!("answer{}", heads.concat());
         for number in (0..=17).chain([22, 23, 24, 26, 28]).chain(30..=33) {
             let counts = calls.each_ref().map(|(_, answers, _)| answers.0[number]);
-            let columns = counts.map(|count| format!("{count:>12}"));
+            let columns = counts.map(|count| format!("{count:>13}"));
             println!("{number:>6}{}", columns.concat());
         }
         self.meetings.print();

@@ -360,9 +360,13 @@ struct Match<'a> {
     opened: usize,
 }
 
+fn name_allowed(name: &[u8]) -> bool {
+    !name.is_empty() && name.len() <= 255 && !name.contains(&0)
+}
+
 /// A refusal comes with the number of records opened, too.
 fn find<'a>(cache: &'a [u8], name: &[u8]) -> Result<Match<'a>, (Fault, usize)> {
-    if name.is_empty() || name.len() > 255 || name.contains(&0) {
+    if !name_allowed(name) {
         return Err((fault(13, 0), 0));
     }
     let tables = tables(cache).map_err(|fault| (fault, 0))?;
@@ -398,6 +402,44 @@ pub fn lookup(cache: &[u8], name: &[u8], words: &mut [u32]) -> Lookup {
             opened,
         },
     }
+}
+
+/// The lookup that knows no hash: after the check all records are tried, bucket by bucket.
+/// Not every test asks.
+#[allow(dead_code)]
+pub fn plain_lookup(cache: &[u8], name: &[u8], words: &mut [u32]) -> Lookup {
+    let without = |number, place, opened| Lookup {
+        number,
+        place,
+        images: 0,
+        opened,
+    };
+    if !name_allowed(name) {
+        return without(13, 0, 0);
+    }
+    let checked = check(cache);
+    let tables = match tables(cache) {
+        Ok(tables) if checked.number == 0 => tables,
+        _ => return without(checked.number, checked.place, 0),
+    };
+    let mut opened = 0;
+    for bucket in 0..tables.buckets {
+        for record in chain(cache, tables.bucket_field(bucket)).records {
+            opened += 1;
+            match icon(cache, &tables, bucket, record) {
+                Ok(icon) if icon.name == name => {
+                    let found = Match {
+                        record,
+                        icon,
+                        opened,
+                    };
+                    return with_images(cache, &found, words);
+                }
+                _ => {}
+            }
+        }
+    }
+    without(30, 0, opened)
 }
 
 /// The answer after a match: 0 with the images in the words, or 14.

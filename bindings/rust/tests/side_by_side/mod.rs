@@ -28,6 +28,14 @@ impl Debug for Difference {
     }
 }
 
+/// A lookup of the library, raw and safe, and of the reader.
+struct LookupCalls {
+    what: &'static str,
+    raw: fn(&[u8], &[u8], &mut [u32]) -> raw::Lookup,
+    reader: fn(&[u8], &[u8], &mut [u32]) -> reader::Lookup,
+    safe: fn(&[u8], &[u8]) -> Result<Found, Refusal>,
+}
+
 /// One buffer and a copy of it. The library sees the lent buffer and the reader
 /// the copy, so that a change to the buffer shows.
 pub struct Pair<'a> {
@@ -67,8 +75,39 @@ impl<'a> Pair<'a> {
         name: &[u8],
         room: usize,
     ) -> Result<(reader::Lookup, Vec<u32>), Difference> {
+        let calls = LookupCalls {
+            what: "lookup",
+            raw: raw::lookup,
+            reader: reader::lookup,
+            safe: icon_cache::lookup,
+        };
+        self.lookup_by(&calls, name, room)
+    }
+
+    /// The same without the hash. Not every test asks.
+    #[allow(dead_code)]
+    pub fn plain_lookup(
+        &self,
+        name: &[u8],
+        room: usize,
+    ) -> Result<(reader::Lookup, Vec<u32>), Difference> {
+        let calls = LookupCalls {
+            what: "plain lookup",
+            raw: raw::plain_lookup,
+            reader: reader::plain_lookup,
+            safe: icon_cache::plain_lookup,
+        };
+        self.lookup_by(&calls, name, room)
+    }
+
+    fn lookup_by(
+        &self,
+        calls: &LookupCalls,
+        name: &[u8],
+        room: usize,
+    ) -> Result<(reader::Lookup, Vec<u32>), Difference> {
         let mut words = marked(room + 2 * GUARD);
-        let answer = raw::lookup(self.lent, name, &mut words[GUARD..][..room]);
+        let answer = (calls.raw)(self.lent, name, &mut words[GUARD..][..room]);
         let library = reader::Lookup {
             number: answer.number,
             place: answer.place,
@@ -76,16 +115,16 @@ impl<'a> Pair<'a> {
             opened: answer.opened,
         };
         let mut expected = marked(room + 2 * GUARD);
-        let reader = reader::lookup(&self.copy, name, &mut expected[GUARD..][..room]);
-        let call = || format!("lookup {name:02x?} with {room} words");
+        let reader = (calls.reader)(&self.copy, name, &mut expected[GUARD..][..room]);
+        let call = || format!("{} {name:02x?} with {room} words", calls.what);
         self.agree(call, library, reader)?;
         let call = || format!("words after {}, {GUARD} more on either side", call());
         self.agree(call, &words, &expected)?;
         let words = expected[GUARD..][..room].to_vec();
         // With 14 the words do not hold the images that the safe call gives.
         if reader.number != 14 {
-            let safe = icon_cache::lookup(self.lent, name);
-            let call = || format!("safe lookup {name:02x?}");
+            let safe = (calls.safe)(self.lent, name);
+            let call = || format!("safe {} {name:02x?}", calls.what);
             self.agree(call, safe, found(&reader, &words))?;
         }
         Ok((reader, words))
