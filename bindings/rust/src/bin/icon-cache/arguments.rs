@@ -72,10 +72,12 @@ pub struct Manner {
     pub max_size: Option<usize>,
 }
 
-/// What is shown of an image.
+/// What is shown of an icon and its images.
 pub struct Shown {
     pub numbering: Numbering,
     pub notes: bool,
+    /// How many records were opened, and how many are without the hash.
+    pub plain: bool,
 }
 
 /// Where a result goes.
@@ -122,7 +124,7 @@ const COMMANDS: [Command; 9] = [
         name: "lookup",
         help: help::LOOKUP,
         options: &[NUMBERING],
-        switches: &[NOTES],
+        switches: &[NOTES, PLAIN],
         request: lookup,
     },
     Command {
@@ -189,6 +191,7 @@ const LONG: &str = "--long";
 const ALL: &str = "--all";
 const MAX_SIZE: &str = "--max-size";
 const NOTES: &str = "--notes";
+const PLAIN: &str = "--plain";
 const AS_CATALOGUE: &str = "--catalogue";
 
 /// What stands behind the name of a command.
@@ -314,6 +317,7 @@ fn lookup(given: Given) -> Result<Request, &'static str> {
     let shown = Shown {
         numbering: numbering(&given)?,
         notes: given.switches.contains(NOTES),
+        plain: given.switches.contains(PLAIN),
     };
     let (file, names) = with_names(given.operands, "a file and a name are missing")?;
     Ok(Request::Lookup { file, names, shown })

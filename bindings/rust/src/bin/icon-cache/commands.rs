@@ -197,9 +197,46 @@ pub fn say_not_found(output: &mut Output, name: &str, refusal: &Refusal) -> Stat
 
 fn lookup_name(output: &mut Output, cache: &[u8], name: &[u8], shown: &Shown) -> Status {
     let name_shown = show::bytes(name);
-    match icon_cache::lookup(cache, name) {
-        Ok(icon) => say_found(output, cache, &name_shown, &icon, shown),
-        Err(refusal) => say_not_found(output, &name_shown, &refusal),
+    let (status, opened) = match icon_cache::lookup(cache, name) {
+        Ok(icon) => {
+            let status = say_found(output, cache, &name_shown, &icon, shown);
+            (status, icon.opened)
+        }
+        Err(refusal) => {
+            let status = say_not_found(output, &name_shown, &refusal);
+            (status, refusal.opened)
+        }
+    };
+    if shown.plain {
+        status.max(say_tried(output, cache, name, opened))
+    } else {
+        status
+    }
+}
+
+/// How many records the lookup opened by the hash, and how many are tried without it. In a
+/// cache that the check refuses none is.
+fn say_tried(output: &mut Output, cache: &[u8], name: &[u8], opened: usize) -> Status {
+    let tried = match icon_cache::plain_lookup(cache, name) {
+        Ok(icon) => icon.opened,
+        Err(refusal) if refusal.number == Refusal::ABSENT => refusal.opened,
+        Err(refusal) => return say_untried(output, cache, &refusal),
+    };
+    let records = show::count(opened, "record", "records");
+    output.line(&format!(
+        "  opened: {records} by the hash, {tried} without it"
+    ));
+    Status::Good
+}
+
+/// The check's answer tells a path from a name. If the refusal is not the check's, it is of
+/// the name asked for, and a line has said so.
+fn say_untried(output: &mut Output, cache: &[u8], refusal: &Refusal) -> Status {
+    match icon_cache::check(cache) {
+        Err(check) if check.number == refusal.number => {
+            say_check_refused(output, "  without the hash", &check)
+        }
+        _ => Status::Refused,
     }
 }
 

@@ -78,7 +78,8 @@ Exit status: 0 all accepted, 1 one refused, 2 one that can't be read.";
 pub const LOOKUP: &str = "\
 Shows the images of each icon: directory, flags and the offset of image data.
 
-Usage: icon-cache lookup FILE NAME... [--notes] [--numbering freedesktop|gtk]
+Usage: icon-cache lookup FILE NAME... [--notes] [--plain]
+       [--numbering freedesktop|gtk]
 
 A NAME is that of the icon, without directory and suffix: folder-open. Names
 that begin with - are given after --. Names are compared byte for byte: two ways
@@ -91,6 +92,11 @@ Options:
   --notes                   below each image show what is noted on it: the
                             rectangle for text, the points to attach emblems to,
                             and the names to display, each with its language
+  --plain                   below each icon show how many records were opened
+                            by the hash of its name, and how many are opened
+                            without it, by trying those of all buckets one by
+                            one. For that the whole cache is checked each time,
+                            and in a refused one no record is tried
   --numbering freedesktop   bitmap suffix 1, XPM suffix 2, SVG suffix 4, icon
                             file 8, as the freedesktop note on the format and
                             generators that follow it do (the default)
@@ -104,6 +110,7 @@ are shown; `icon-cache check --long` judges the whole cache.
 Examples:
   icon-cache lookup /usr/share/icons/hicolor folder --numbering gtk
   icon-cache lookup pack/icon-theme.cache cow hen --notes
+  icon-cache lookup --plain pack/icon-theme.cache cow
 
 Exit status: 0 all found, 1 one absent or refused, 2 a file that can't be read.";
 
