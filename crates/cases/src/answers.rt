@@ -40,9 +40,9 @@ pub fn check(case: &[u8], cache: &[u8]) {
     checked(case, b": check ", answer);
 }
 
-// The line of a lookup, left open for what is to be said of its words.
-pub fn begin_lookup(case: &[u8], answer: LookupAnswer) {
-    begin(case, b": lookup ", answer.number, answer.place);
+// The line of a lookup, of which `call` says the way, left open for what is to be said of its words.
+pub fn begin_lookup(case: &[u8], call: &[u8], answer: LookupAnswer) {
+    begin(case, call, answer.number, answer.place);
     count(b", images ", answer.images);
     count(b", opened ", answer.opened);
 }
@@ -61,7 +61,8 @@ pub fn print_words(words: &[u32]) {
 }
 
 fn lookup_into(case: &[u8], cache: &[u8], name: &[u8], words: &mut [u32]) {
-    begin_lookup(case, icon_cache::lookup(cache, name, words));
+    let answer = icon_cache::lookup(cache, name, words);
+    begin_lookup(case, b": lookup ", answer);
     print_words(words);
     end();
 }
@@ -71,6 +72,19 @@ fn lookup_into(case: &[u8], cache: &[u8], name: &[u8], words: &mut [u32]) {
 pub fn lookup(case: &[u8], cache: &[u8], name: &[u8], room: usize) {
     let mut words = [7u32; 6];
     lookup_into(case, cache, name, cases_lent::front(&mut words, room));
+}
+
+fn plain_into(case: &[u8], cache: &[u8], name: &[u8], words: &mut [u32]) {
+    let answer = plain_lookup::plain_lookup(cache, name, words);
+    begin_lookup(case, b": plain lookup ", answer);
+    print_words(words);
+    end();
+}
+
+// A plain lookup with words lent in the same way.
+pub fn plain_lookup(case: &[u8], cache: &[u8], name: &[u8], room: usize) {
+    let mut words = [7u32; 6];
+    plain_into(case, cache, name, cases_lent::front(&mut words, room));
 }
 
 pub fn directory(case: &[u8], cache: &[u8], index: usize) {

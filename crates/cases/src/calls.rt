@@ -18,6 +18,7 @@ fn look_up(case: &[u8], line: &[u8], w: Words, buffer: &[u8], cache: &[u8]) {
     let command = w.command;
     match command {
         b'l' => answers::lookup(case, cache, name, w.a),
+        b'P' => answers::plain_lookup(case, cache, name, w.a),
         b'p' => picks::pick(case, cache, script::rest(line, w.fourth), w, buffer),
         b'w' => images::lookup(case, cache, name, w.a),
         b'q' => answers::lookup(case, cache, script::part(buffer, w.b, to), w.a),

@@ -5,7 +5,7 @@ use crate::answers;
 pub fn lookup(case: &[u8], cache: &[u8], name: &[u8], room: usize) {
     let mut words = [7u32; 2048];
     let answer = icon_cache::lookup(cache, name, cases_lent::front(&mut words, room));
-    answers::begin_lookup(case, answer);
+    answers::begin_lookup(case, b": lookup ", answer);
     answers::count(b", images right ", cases_lent::count_right(&words));
     answers::count(b", sum of the words ", cases_lent::sum(&words));
     answers::end();
