@@ -95,8 +95,8 @@ extern "C" {
 /*
  * Checks the whole cache. With any number but 0, *directories, *icons and
  * *longest are 0. *longest is how many records the longest of the buckets'
- * chains has: no lookup in this cache opens more, whatever the name and the
- * room. It is 0 where there are no icons.
+ * chains has: no icon_cache_lookup in this cache opens more, whatever the name
+ * and the room. It is 0 where there are no icons.
  *
  * *opened is the number of icon records that were looked at: with 17 it is 0 if
  * a path runs off the end, and more if a name does. A cache of 16 MiB that was
@@ -214,9 +214,11 @@ uint32_t icon_cache_lookup(const uint8_t *cache, size_t cache_len,
  *    14  too little room for the images, at the image list
  *
  * If the check accepts the cache, the number, *place, *images and the words are
- * those of icon_cache_lookup, whatever the name and the room. Only *opened
- * differs. With 0 and 14 it is how many records were tried, the one found among
- * them; with 30 it is how many icons there are. With 13 too it is 0.
+ * those of icon_cache_lookup, whatever the name and the room; only *opened may
+ * be another. With 0 and 14 *opened is how many records were tried, the one found
+ * among them, with 30 how many icons there are, and with any other number 0.
+ * With any number but 0 all words are as they were, and with any but 0 and 14
+ * *images is 0.
  *
  * Each call costs the whole check, and then the records up to the one found, or
  * all of them where none bears the name. Screens ask icon_cache_lookup.

@@ -209,14 +209,13 @@ pub fn lookup(cache: &[u8], name: &[u8]) -> Result<Found, Refusal> {
     lookup_by(raw::lookup, cache, name)
 }
 
-/// Looks up one icon name without its hash, as one does it in a classroom: the records
+/// Looks up one icon name without its hash. This call is there for teaching: the records
 /// of all buckets are tried one by one, in the order of [`records`].
 ///
-/// The whole cache is checked first, and what [`check`] refuses is refused here with the
-/// same number and place and no record tried, also where [`lookup`] would find the name.
-/// In a cache that [`check`] accepts both find the same record and images;
-/// [`opened`](Found::opened) is the number of records tried, and where there is no icon
-/// of this name that of all icons.
+/// The name is judged first (13), then the whole cache: what [`check`] refuses is refused
+/// here with the same number and place and no record tried, also where [`lookup`] would
+/// find the name. In a cache that [`check`] accepts both find the same record and images.
+/// `opened` is the number of records tried; with [`Refusal::ABSENT`] that is all icons.
 ///
 /// ```
 /// use icon_cache::{lookup, plain_lookup, Refusal, FARM_CACHE};

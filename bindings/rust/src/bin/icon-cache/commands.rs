@@ -229,8 +229,9 @@ fn say_tried(output: &mut Output, cache: &[u8], name: &[u8], opened: usize) -> S
     Status::Good
 }
 
-/// The check's answer tells a path from a name. If the refusal is not the check's, it is of
-/// the name asked for, and a line has said so.
+/// Why no record was tried. With 17 only the check's own count tells a path from a name, so
+/// the check is asked again. A refusal that is not the check's is 13, of the name asked for:
+/// the line above has said so.
 fn say_untried(output: &mut Output, cache: &[u8], refusal: &Refusal) -> Status {
     match icon_cache::check(cache) {
         Err(check) if check.number == refusal.number => {

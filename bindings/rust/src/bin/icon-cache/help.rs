@@ -40,9 +40,9 @@ Says whether each cache is sound, in one line for each file.
 Usage: icon-cache check FILE... [--all | --long] [--verbose] [--max-size N]
 
 An accepted cache is shown with the number of its icons and directories, and
-with how many records the longest of its buckets' chains has: no lookup opens
-more. For a refused one the line says which rule it breaks first, at which
-offset (decimal and hex), and what that means.
+with how many records the longest of its buckets' chains has: no lookup by the
+hash opens more. For a refused one the line says which rule it breaks first, at
+which offset (decimal and hex), and what that means.
 
 Options:
   --all          below the line of a refused cache, show every fault that
@@ -95,8 +95,9 @@ Options:
   --plain                   below each icon show how many records were opened
                             by the hash of its name, and how many are opened
                             without it, by trying those of all buckets one by
-                            one. For that the whole cache is checked each time,
-                            and in a refused one no record is tried
+                            one. For that the whole cache is checked each time;
+                            in a refused one no record is tried, and the exit
+                            status is 1
   --numbering freedesktop   bitmap suffix 1, XPM suffix 2, SVG suffix 4, icon
                             file 8, as the freedesktop note on the format and
                             generators that follow it do (the default)
