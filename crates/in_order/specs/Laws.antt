@@ -14,6 +14,10 @@ use Rattle.format.specs.Laws.Demand.{demand3}
 use Rattle.format.specs.Laws.InOrder.{chainLength, StandsAt, chain-lengths, order-length, step-in-order, below-length}
 use Rattle.in_order.specs.Cursor.{Real, Before, Here}
 
+-- a record at hand keeps the rules, so it lies inside
+pub here-keeps : {s : List ℕ} {n k r : ℕ} → Here s n k r → Keeps Short s k r
+here-keeps h = rw (← h .is) at (h .stands .keeps)
+
 module _ {s : List ℕ} (acc : Accepted Short s) where
   -- there are no more records than bytes
   pub records-few : length (allRecords Short s) ≤ length s
@@ -64,12 +68,6 @@ module _ {s : List ℕ} (acc : Accepted Short s) where
           passed = omega (arith, a .place);
           field = read ∙ ap (be 4 s) (h .is ∙ a .named);
         }
-
-    pub here-keeps : Keeps Short s k r
-    here-keeps = rw (← h .is) at (h .stands .keeps)
-
-    pub here-inside : r + 12 ≤ length s
-    here-inside = here-keeps .inside
 
     pub here-below : n < length (allRecords Short s)
     here-below = below-length acc (h .stands)

@@ -4,7 +4,7 @@ use borrow.Author.Needs.{needs}
 use denote.Ref.{now}
 use Rattle.tables.specs.Laws.{valid-header}
 use Rattle.in_order.specs.Cursor.{Here}
-use Rattle.in_order.specs.Laws.{records-few, behind, here-inside, here-below}
+use Rattle.in_order.specs.Laws.{records-few, behind, here-keeps, here-below}
 use Rattle.in_order.proofs.next.Statement.{statement}
 use Rattle.in_order.proofs.next.Tie as tie
 
@@ -18,7 +18,7 @@ add-settle c =
     omega (arith, here-below (s .pre .0 .accepted) (here s), records-few (s .pre .0 .accepted), valid-header (s .pre .0 .tables))
 
 u32-at-requires : tie.Need-u32-at-requires
-u32-at-requires c κs = let s = c .before .before .before in omega (arith, here-inside (s .pre .0 .accepted) (here s))
+u32-at-requires c κs = let s = c .before .before .before in omega (arith, here-keeps (here s) .inside)
 
 settle-requires : tie.Need-settle-requires
 settle-requires c κs =

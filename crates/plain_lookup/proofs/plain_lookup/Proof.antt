@@ -100,7 +100,7 @@ module _ (c : tie.Then3 Inv-loop μ-loop) where
   here = l .loop .inv .1 .here (c .if3 .taken)
 
   keeps : Keeps Short (now (begin l .args .cache)) (l .loop .at .bucket) (l .loop .at .«record»)
-  keeps = here-keeps (accepted (read l .before)) here
+  keeps = here-keeps here
 
   below : l .loop .at .number < length (allRecords Short (now (begin l .args .cache)))
   below = here-below (accepted (read l .before)) here
@@ -129,7 +129,7 @@ returns-3 c =
     let k = read x .before in
     let s = now (begin x .args .cache) in
     let n = x .loop .at .number in
-    let own = bears-name (accepted k) (here turn) _ (asked .bears .ensures) (bears .if4 .taken) in
+    let own = bears-name (here turn) _ (asked .bears .ensures) (bears .if4 .taken) in
     let tried = tried-met s _ (below turn) (x .loop .inv .2) own in
     let found = plain-met s _ (length (now (begin x .args .words))) (may-be (asks k)) (kept k) tried in
     let same = x .loop .inv .0 in
@@ -152,7 +152,7 @@ loop-again c =
     let asked = other .before in
     let turn = asked .before .before in
     let x = l turn in
-    let differs = bears-other (accepted (read x .before)) (here turn) _ (asked .bears .ensures) (other .if4 .left) in
+    let differs = bears-other (here turn) _ (asked .bears .ensures) (other .if4 .left) in
     (x .loop .inv .0, c .next .ensures .0, λ i g. below-suc {P = λ j. nthName _ j ≡ _ → ⊥} (x .loop .inv .2) differs i (omega (arith, c .next .ensures .1)))
 
 returns-4 : tie.Need-returns-4 Inv-loop μ-loop

@@ -10,7 +10,6 @@ use Rattle.format.specs.Fault.{fault, ifKept}
 use Rattle.format.specs.String.{allowed, sameBytes}
 use Rattle.format.specs.Record.{nameOf, bearsName}
 use Rattle.format.specs.Chain.{allRecords, nthRecord, nthName}
-use Rattle.format.specs.Words.{Accepted}
 use Rattle.format.specs.Answer.{found, unfound, lookedUp}
 use Rattle.format.specs.Call.{check, firstNamed, withImages, foundAnswer}
 use Rattle.format.specs.declared.CheckAnswer.{CheckAnswer}
@@ -26,9 +25,9 @@ use Rattle.in_order.specs.Laws.{here-keeps}
 use Rattle.plain_lookup.specs.Plain.{plainFault, tryAll, plainFind, plainLookup}
 
 -- the record at hand bears the name exactly if that is its name
-module _ {s : List ℕ} (acc : Accepted Short s) {n k r : ℕ} (h : Here s n k r) (name : List ℕ) where
+module _ {s : List ℕ} {n k r : ℕ} (h : Here s n k r) (name : List ℕ) where
   bears-same : bearsName s r name ≡ sameBytes (nameOf s r) name
-  bears-same = rw (record-valid Short s k r (here-keeps acc h .rules) .named) refl
+  bears-same = rw (record-valid Short s k r (here-keeps h .rules) .named) refl
 
   pub bears-name : {b : Bool} → b ≡ bearsName s r name → b ≡ true → nthName s n ≡ name
   bears-name e b = ap (nameOf s) (sym (h .is)) ∙ same-equal (nameOf s r) name (sym bears-same ∙ sym e ∙ b)

@@ -46,7 +46,7 @@ module _ {s : List ℕ} {x : Icons} (acc : Accepted Short s) (h : Staying s x) w
       let (g, e) = kept-number s (x .at .number) (here-below acc here) (h .stays real) in
       let below : x .icon < length (keptRecords s) = omega (arith, h .icons) in
       let is = icon-is s (x .icon) below ∙ ap (iconOf s) (ap (λ i. getD (keptRecords s) i 0) (h .icons) ∙ e ∙ sym (here .is)) in
-      let keeps = here-keeps acc here in
+      let keeps = here-keeps here in
       record {
         below = omega (arith, icon-count s);
         is = is;
