@@ -189,8 +189,8 @@ static int lookup(const char *name)
 }
 
 /*
- * The same without the hash: the whole cache is checked, then its records are tried one by one. The
- * words hold the same images.
+ * The same without the hash: the whole cache is checked, then its records are tried one by one. If it
+ * finds the name, the words hold the same images.
  */
 static void plain_lookup(const char *name)
 {
