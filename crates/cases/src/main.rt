@@ -1,6 +1,8 @@
 // Runs the cases of documents 01 and 02, which stand on standard input, and prints a line for each
 // call. The stored output was written from the documents, so a run that differs is a fault of the
 // code. The head of the file `stdin` says how a case is written.
+#![tactic(auto)]
+
 mod answers;
 mod calls;
 mod catalogues;
@@ -14,7 +16,7 @@ use cases_made::{Lengths, script};
 use libc::STDIN_FILENO;
 
 // Where the name of the case at hand stands in the script.
-#[derive(Drop)]
+#[derive(Clone, Copy)]
 struct Title {
     from: usize,
     to: usize,

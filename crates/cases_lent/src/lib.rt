@@ -1,6 +1,8 @@
 // The words and the bytes that the cases lend: as many as are to be lent, what they hold before a
 // call, and how much of what they hold after it is right. What they are to hold stands in the
 // buffer, from 1,024 on.
+#![tactic(auto)]
+
 ghost use Rattle.std.specs.Prelude.{◌<◌};
 
 use cases_made::script;

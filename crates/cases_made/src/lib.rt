@@ -1,6 +1,8 @@
 // Makes caches as the lines of a script say: the commands that write into one, and those that give it
 // a length. It stands at the front of a larger buffer. A byte past the buffer's end is left out; the
 // stored output of the cases would show that it is missing.
+#![tactic(auto)]
+
 pub mod icons;
 mod images;
 pub mod script;
@@ -9,7 +11,7 @@ use script::Words;
 use std::num::wrapping_add_usize;
 
 // How many bytes the cache has, and the kept one.
-#[derive(Drop)]
+#[derive(Clone, Copy)]
 pub struct Lengths {
     pub cache: usize,
     pub kept: usize,

@@ -74,7 +74,7 @@ pub fn number(line: &[u8], at: usize) -> usize {
 
 // A line by its words: the command's first letter, up to three numbers, and where the second, the
 // third and what follows them stand, for the text that may stand there instead.
-#[derive(Drop)]
+#[derive(Clone, Copy)]
 pub struct Words {
     pub command: u8,
     pub a: usize,

@@ -1,4 +1,6 @@
 // A bucket's chain: what its fields lead to, and the walk along it.
+#![tactic(auto)]
+
 ghost use Rattle.std.specs.Prelude.{◌≡◌, ℕ, ◌+◌, ◌-◌, ◌^◌, ◌≤◌, ◌<◌, length};
 ghost use Rattle.format.specs.Header.{buckets};
 ghost use Rattle.format.specs.Chain.{chain_of};
@@ -13,12 +15,12 @@ ghost use Rattle.chains.specs.Walk.{walked, stepped_to, Stands, Further, Judged}
 
 use bigendian::u32_at;
 use format::{Found, Next};
-use records::{judge_images, judge_name};
+use records::judge;
 use rounds::{ahead, turning};
 use tables::{Tables, bucket_field};
 
 // How many records of a chain were opened, and what comes after those that keep the rules.
-#[derive(Drop)]
+#[derive(Clone, Copy)]
 pub struct Walked {
     pub opened: usize,
     pub after: Next,
@@ -38,13 +40,9 @@ pub fn follow(cache: &[u8], t: Tables, bucket: u32, field: usize) -> Next
     if cache.len() < record + 12 {
         return Next::Broken(7, field);
     }
-    let name = judge_name(cache, t, bucket, record);
-    if name.number != 0 {
-        return Next::Broken(name.number, name.place);
-    }
-    let list = judge_images(cache, t, record);
-    if list.number != 0 {
-        return Next::Broken(list.number, list.place);
+    let fault = judge(cache, t, bucket, record, false);
+    if fault.number != 0 {
+        return Next::Broken(fault.number, fault.place);
     }
     Next::Record(record)
 }
@@ -89,20 +87,14 @@ fn pass(
 }
 
 // The walk along the chain of `bucket`, past at most `most` records, each judged as often as it is
-// met: so callers pass no more than `at_first` records by it, and then call `go_on`. An empty bucket
-// is told at once, without the call of `pass`.
+// met: so callers pass no more than `at_first` records by it, and then call `go_on`. The two are
+// apart so that the judging is inlined into the loop of each.
 pub fn walk(cache: &[u8], t: Tables, bucket: u32, most: usize) -> Walked
     requires tables_of { TablesOf cache.now t }
     requires bucket_bound { (bucket < buckets cache.now) × (most < length cache.now) }
     ensures { result ≡ walked (chain_of Short cache.now bucket most) }
 {
     let field = bucket_field(t, bucket);
-    if u32_at(cache, field) == 0xFFFF_FFFF {
-        return Walked {
-            opened: 0,
-            after: Next::End,
-        };
-    }
     pass(cache, t, bucket, field, 0, most)
 }
 

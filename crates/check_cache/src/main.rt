@@ -1,4 +1,6 @@
 // Reads an icon theme cache from standard input and prints one line: what the check says of it.
+#![tactic(auto)]
+
 ghost use Rattle.std.specs.Prelude.{◌≡◌};
 ghost use Rattle.check_cache.specs.Line.{line_of, line_for};
 
@@ -9,7 +11,7 @@ use libc::{STDIN_FILENO, STDOUT_FILENO};
 const LARGEST: usize = 65536;
 
 // What the program prints.
-#[derive(Drop)]
+#[derive(Clone, Copy)]
 pub enum Line {
     Accepted {
         icons: usize,

@@ -1,5 +1,7 @@
 // Checks all chains of a cache that keeps the rules 1 to 6, 16 and 17, bucket by bucket, and counts
 // the records and the longest chain.
+#![tactic(auto)]
+
 ghost use Rattle.std.specs.Prelude.{◌≡◌, ◌+◌, ◌≤◌, ◌<◌, max, length};
 ghost use Rattle.format.specs.Header.{buckets, bucket_field};
 ghost use Rattle.format.specs.Chain.{chain_of};

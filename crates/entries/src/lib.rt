@@ -1,5 +1,7 @@
 // Judges one path and one icon of any bytes taken as a catalogue, field by field: 18. What is judged
 // is in the specs/ of `catalogue`.
+#![tactic(auto)]
+
 ghost use Rattle.std.specs.Prelude.{◌≡◌, ◌&&◌, ◌+◌, ◌≤◌, ◌<◌, length, leb};
 ghost use Rattle.format.specs.Number.{be};
 ghost use Rattle.format.specs.Part.{inside};
@@ -13,7 +15,7 @@ use bigendian::{byte, u16_at};
 use format::Fault;
 
 // What is judged of fields, and where they end if they keep the rules; else 0.
-#[derive(Drop)]
+#[derive(Clone, Copy)]
 pub struct Judged {
     pub fault: Fault,
     pub end: usize,

@@ -1,4 +1,6 @@
 // Lists an accepted cache as a catalogue: its paths by index, its icons by rising record offset.
+#![tactic(auto)]
+
 mod parts;
 mod putting;
 mod sizes;

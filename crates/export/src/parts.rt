@@ -11,7 +11,7 @@ use strings::name_length;
 use tables::Tables;
 
 // Where the name and the images of a record stand, and how many bytes and images they are.
-#[derive(Drop)]
+#[derive(Clone, Copy)]
 pub struct IconParts {
     pub name: usize,
     pub length: usize,

@@ -1,5 +1,7 @@
 // Puts parts one behind the other into lent buffers, each if there is room for it, and says in any
 // case where the next one goes: with no room at all this only measures.
+#![tactic(auto)]
+
 ghost use Rattle.std.specs.Prelude.{[], ◌∷◌, ◌+◌, ◌^◌, ◌≤◌, ◌<◌, length, take, drop};
 ghost use Rattle.format.specs.Bytes.{bytes};
 ghost use Rattle.filling.specs.Puts.{Puts};

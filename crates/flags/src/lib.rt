@@ -1,10 +1,12 @@
 // The flags of an image in two numberings: into document 01's numbering, and back.
+#![tactic(auto)]
+
 ghost use Rattle.std.specs.Prelude.{◌≡◌, ◌≤◌};
 ghost use Rattle.flags.specs.Flags.{freedesktop, gtk, numbering, valid_flags, flags_in, flags_out};
 ghost use Rattle.flags.specs.Flags as definition;
 
 // With number 0 the flags in the numbering asked for; with 27 they are 0. The place is always 0.
-#[derive(Drop)]
+#[derive(Clone, Copy)]
 pub struct FlagsAnswer {
     pub number: u32,
     pub place: usize,

@@ -1,7 +1,8 @@
 // The types that the calls answer with. What they mean is in specs/.
+#![tactic(auto)]
 
 // What the string at the front of a slice is, within a limit.
-#[derive(Drop)]
+#[derive(Clone, Copy)]
 pub enum Extent {
     // Ended by a zero byte after this many bytes, at least 1 and at most the limit.
     Whole(usize),
@@ -13,14 +14,14 @@ pub enum Extent {
 }
 
 // Which rule is broken, and where; number 0 where none is.
-#[derive(Drop)]
+#[derive(Clone, Copy)]
 pub struct Fault {
     pub number: u32,
     pub place: usize,
 }
 
 // What a field leads to on a chain.
-#[derive(Drop)]
+#[derive(Clone, Copy)]
 pub enum Next {
     // The end value: no further record.
     End,
@@ -31,7 +32,7 @@ pub enum Next {
 }
 
 // How much of an image is judged.
-#[derive(Drop)]
+#[derive(Clone, Copy)]
 pub enum Reading {
     // Its directory index and its flags.
     Short,
@@ -39,7 +40,7 @@ pub enum Reading {
     Long,
 }
 
-#[derive(Drop)]
+#[derive(Clone, Copy)]
 pub struct CheckAnswer {
     pub number: u32,
     pub place: usize,
@@ -51,14 +52,14 @@ pub struct CheckAnswer {
 }
 
 // The record that bears a name, as the place of number 0, or why there is none.
-#[derive(Drop)]
+#[derive(Clone, Copy)]
 pub struct Found {
     pub number: u32,
     pub place: usize,
     pub opened: usize,
 }
 
-#[derive(Drop)]
+#[derive(Clone, Copy)]
 pub struct LookupAnswer {
     pub number: u32,
     pub place: usize,
@@ -66,7 +67,7 @@ pub struct LookupAnswer {
     pub opened: usize,
 }
 
-#[derive(Drop)]
+#[derive(Clone, Copy)]
 pub struct DirectoryAnswer {
     pub number: u32,
     pub place: usize,
@@ -74,7 +75,7 @@ pub struct DirectoryAnswer {
 
 // The number call's answer, and where the path's part stands in the buffer; with a refusal its
 // start and its length are 0.
-#[derive(Drop)]
+#[derive(Clone, Copy)]
 pub struct DirectoryPart {
     pub number: u32,
     pub place: usize,

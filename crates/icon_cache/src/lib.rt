@@ -1,5 +1,7 @@
 // The calls of document 01 over one lent buffer that holds an icon theme cache. Each takes any
 // buffer, any name and any number, and says its whole answer by a definition of the crate `format`.
+#![tactic(auto)]
+
 ghost use Rattle.std.specs.Prelude.{◌≡◌, length};
 ghost use Rattle.format.specs.Answer.{part_is};
 ghost use Rattle.format.specs.Call.{lookup_words, directory_part, directory_path};

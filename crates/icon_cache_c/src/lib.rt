@@ -2,6 +2,8 @@
 // whole, the number as its result and the rest through the pointers; but the path call leaves out
 // the place, which `icon_cache_directory` gives, and so do the calls for flags, where it is always
 // 0.
+#![tactic(auto)]
+
 ghost use Rattle.std.specs.Prelude.{◌≡◌, length};
 ghost use Rattle.format.specs.Answer.{checked, looked_up, directory_is, part_is};
 ghost use Rattle.format.specs.Call.{check, lookup, lookup_words, directory, directory_part};

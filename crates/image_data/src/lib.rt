@@ -1,6 +1,8 @@
 // The calls by an IMAGE_DATA_OFFSET, which is any number, for what stands behind it: the rectangle,
 // an attach point, and the language and the text of a display name. Each judges what it reads on
 // its way and nothing beside.
+#![tactic(auto)]
+
 ghost use Rattle.std.specs.Prelude.{◌≡◌, ℕ, ◌+◌, ◌≤◌, ◌<◌, length, take, drop};
 ghost use Rattle.format.specs.Number.{be};
 ghost use Rattle.format.specs.Fault.{fault, ◌or_else◌};
@@ -15,7 +17,7 @@ use bigendian::{u16_at, u32_at};
 use format::Extent;
 
 // With a refusal the corners are 0.
-#[derive(Drop)]
+#[derive(Clone, Copy)]
 pub struct RectangleAnswer {
     pub number: u32,
     pub place: usize,
@@ -26,7 +28,7 @@ pub struct RectangleAnswer {
 }
 
 // With a refusal the point is 0, 0.
-#[derive(Drop)]
+#[derive(Clone, Copy)]
 pub struct PointAnswer {
     pub number: u32,
     pub place: usize,
@@ -36,7 +38,7 @@ pub struct PointAnswer {
 
 // Where a display name's language or its text stands in the buffer; with a refusal the start and
 // the length are 0.
-#[derive(Drop)]
+#[derive(Clone, Copy)]
 pub struct StringPart {
     pub number: u32,
     pub place: usize,
@@ -46,7 +48,7 @@ pub struct StringPart {
 
 // How far a call came on its way: what it is refused with, and where the part stands that the way
 // leads to; 0 with a refusal.
-#[derive(Drop)]
+#[derive(Clone, Copy)]
 struct Way {
     number: u32,
     place: usize,

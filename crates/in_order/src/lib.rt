@@ -1,4 +1,6 @@
 // The records of an accepted cache one by one, in the check's order, by their fields alone.
+#![tactic(auto)]
+
 ghost use Rattle.std.specs.Prelude.{◌≡◌, ◌+◌};
 ghost use Rattle.tables.specs.Tables.{Sound};
 ghost use Rattle.in_order.specs.Cursor.{Before, At, Real};
@@ -8,7 +10,7 @@ use tables::{Tables, bucket_field};
 
 // The record with this number in the check's order, and the bucket on whose chain it stands. Behind
 // the last one `record` is the end value.
-#[derive(Drop)]
+#[derive(Clone, Copy)]
 pub struct Cursor {
     pub number: usize,
     pub bucket: u32,

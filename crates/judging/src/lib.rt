@@ -1,5 +1,7 @@
 // Judges any bytes as a catalogue, section by section and then its names, 18 and 20, and tells where
 // the parts of a good one stand. What is judged is in the specs/ of `catalogue`.
+#![tactic(auto)]
+
 ghost use Rattle.std.specs.Prelude.{◌≡◌, [], ◌≤◌, length};
 ghost use Rattle.catalogue.specs.Fields.{path_end, icon_end, path_count, icon_count_at};
 ghost use Rattle.catalogue.specs.Judgement.{path_fields_fault, icon_fields_fault, fields_fault};
@@ -27,7 +29,7 @@ pub fn refusal(number: u32, place: usize) -> WriteAnswer
 
 // What is judged of a catalogue, and where its parts stand if it is good: how many paths and icons
 // it has, and where the first icon begins.
-#[derive(Drop)]
+#[derive(Clone, Copy)]
 pub struct Parts {
     pub fault: Fault,
     pub paths: usize,

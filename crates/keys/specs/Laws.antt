@@ -1,14 +1,9 @@
 -- Laws of the order of keys: only a key itself is equal to it, and what is less than a lesser one
 -- is less.
-use Rattle.std.specs.Prelude.{ℕ, ◌+◌, ◌≤◌, ◌<◌, ◌≡◌, refl, ◌⊎◌, List, [], ◌∷◌, ◌++◌, length, drop, get_or}
-use Rattle.std.proofs.Common.{sym, ap, ap₂, ◌∙◌, inl, inr, arith, take-append-drop, drop-drop}
+use Rattle.std.specs.Prelude.{ℕ, ◌<◌, ◌≡◌, refl, ◌⊎◌, List, [], ◌∷◌}
+use Rattle.std.proofs.Common.{sym, ◌∙◌, inl, inr, arith}
 use Rattle.std.proofs.Math.Decide.{dec_lt}
 use borrow.Author.Tests.{lt-ltb, le-ltb}
-use Rattle.format.specs.Number.{be}
-use Rattle.format.specs.Bytes.{bytes}
-use Rattle.format.specs.String.{string}
-use Rattle.format.specs.Laws.Bytes.{bytes-length, bytes_read}
-use Rattle.format.specs.Laws.Strings.{string-on}
 use Rattle.keys.specs.declared.Ordering.TheVariants.{Less, Equal, Greater}
 use Rattle.keys.specs.Order.{order}
 
@@ -127,26 +122,3 @@ numbers-less x y e = go (less-because x y [] [] e)
     go : (x < y) ⊎ ((x ≡ y) × (order [] [] ≡ Less)) → x < y
     go (inl h) = h
     go (inr h) = absurd (not-less-than-itself [] h.1)
-
--- what both begin with leaves the order to the rest
-pub order-front : (x a b : List ℕ) → order (x ++ a) (x ++ b) ≡ order a b
-order-front [] a b = refl
-order-front (n ∷ x) a b = first-equal n n (x ++ a) (x ++ b) refl ∙ order-front x a b
-
--- eight bytes that are read as the same number
-module _ (a b : List ℕ) (i : ℕ) (small-a : (j : ℕ) → get_or a j 0 < 256) (small_b : (j : ℕ) → get_or b j 0 < 256) (in-a : i + 8 ≤ length a) (in_b : i + 8 ≤ length b) (same : be 8 a i ≡ be 8 b i) where
-  behind : (s : List ℕ) → ((j : ℕ) → get_or s j 0 < 256) → i + 8 ≤ length s → drop i s ≡ bytes 8 (be 8 s i) ++ drop (i + 8) s
-  behind s small l = sym (take-append-drop 8 (drop i s)) ∙ ap₂ ◌++◌ (sym (bytes_read 8 s i small l)) (drop-drop 8 i s)
-
-  behind-b : drop i b ≡ bytes 8 (be 8 a i) ++ drop (i + 8) b
-  behind-b = behind b small_b in_b ∙ ap (λ w. bytes 8 w ++ drop (i + 8) b) (sym same)
-
-  pub eight-alike : order (drop i a) (drop i b) ≡ order (drop (i + 8) a) (drop (i + 8) b)
-  eight-alike = ap₂ order (behind a small-a in-a) behind-b ∙ order-front (bytes 8 (be 8 a i)) _ _
-
-  pub eight-named : length (string (bytes 8 (be 8 a i))) ≡ 8
-      → order (string (drop i a)) (string (drop i b)) ≡ order (string (drop (i + 8) a)) (string (drop (i + 8) b))
-  eight-named e =
-      let x = bytes 8 (be 8 a i) in
-      let all = e ∙ sym (bytes-length 8 (be 8 a i)) in
-      ap₂ order (ap string (behind a small-a in-a) ∙ string-on x _ all) (ap string behind-b ∙ string-on x _ all) ∙ order-front x _ _

@@ -1,15 +1,16 @@
 // How the keys of two offsets of a buffer compare, by their kind.
-ghost use Rattle.std.specs.Prelude.{◌≡◌, [], ◌∷◌, ◌≤◌, length, take, drop, get_or};
+#![tactic(auto)]
+
+ghost use Rattle.std.specs.Prelude.{◌≡◌, [], ◌∷◌, take, get_or};
 ghost use Rattle.format.specs.String.{string};
 ghost use Rattle.keys.specs.Order.{order};
 ghost use Rattle.keys.specs.Key.{name_after, list_from, key_at};
 
-use bigendian::{u32_at, u64_at};
+use bigendian::u32_at;
 use strings::from;
-use zero_bytes::first_zero;
 
 // What the key of an offset is.
-#[derive(Drop)]
+#[derive(Clone, Copy)]
 pub enum Kind {
     // The string there, which a zero byte or the buffer's end ends: a name or a path of a cache.
     Ended,
@@ -22,7 +23,7 @@ pub enum Kind {
 }
 
 // How one key compares with another.
-#[derive(Drop)]
+#[derive(Clone, Copy)]
 pub enum Ordering {
     Less,
     Equal,
@@ -64,55 +65,12 @@ fn list_from(s: &[u8], at: u32) -> &[u8]
     front(part, 4 + 8 * u32_at(s, start) as usize)
 }
 
-// How many bytes both have.
-fn shorter(a: &[u8], b: &[u8]) -> usize
-    ensures { (result ≤ length a.now) × (result ≤ length b.now) }
-{
-    if a.len() < b.len() { a.len() } else { b.len() }
-}
-
-// How many bytes, a multiple of eight, both begin with, none of them zero: they leave the order of the
-// two strings to what follows.
-fn strings_alike(a: &[u8], b: &[u8]) -> usize
-    ensures { (result ≤ length a.now) × (order (string (drop result a.now)) (string (drop result b.now)) ≡ order (string a.now) (string b.now)) }
-{
-    let end = shorter(a, b);
-    let mut i = 0;
-    while 8 <= end - i {
-        let word = u64_at(a, i);
-        if word != u64_at(b, i) {
-            return i;
-        }
-        if first_zero(word) < 8 {
-            return i;
-        }
-        i += 8;
-    }
-    i
-}
-
-// How many bytes, a multiple of eight, both begin with.
-fn bytes_alike(a: &[u8], b: &[u8]) -> usize
-    ensures { (result ≤ length a.now) × (result ≤ length b.now) × (order (drop result a.now) (drop result b.now) ≡ order a.now b.now) }
-{
-    let end = shorter(a, b);
-    let mut i = 0;
-    while 8 <= end - i {
-        if u64_at(a, i) != u64_at(b, i) {
-            return i;
-        }
-        i += 8;
-    }
-    i
-}
-
-// How the strings at the fronts of two parts compare: the words that both begin with are passed, then
-// it goes byte by byte, where a zero byte, as which a byte past the end counts, is less than any
-// other.
+// How the strings at the fronts of two parts compare. Neither's end is looked for: a zero byte, as
+// which a byte past the end counts, is less than any other.
 fn compare_strings(a: &[u8], b: &[u8]) -> Ordering
     ensures { result ≡ order (string a.now) (string b.now) }
 {
-    let mut i = strings_alike(a, b);
+    let mut i = 0;
     while i < a.len() {
         let x = a[i];
         let y = byte(b, i);
@@ -138,7 +96,7 @@ fn compare_strings(a: &[u8], b: &[u8]) -> Ordering
 fn compare_bytes(a: &[u8], b: &[u8]) -> Ordering
     ensures { result ≡ order a.now b.now }
 {
-    let mut i = bytes_alike(a, b);
+    let mut i = 0;
     while i < a.len() {
         if i == b.len() {
             return Ordering::Greater;

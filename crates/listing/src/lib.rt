@@ -1,5 +1,7 @@
 // Paging through a cache: from a position, which the caller holds, the next record in the check's
 // order and the position after it.
+#![tactic(auto)]
+
 ghost use Rattle.std.specs.Prelude.{◌≡◌, ◌+◌, ◌-◌, ◌^◌, ◌≤◌, ◌<◌, length};
 ghost use Rattle.format.specs.Header.{buckets};
 ghost use Rattle.format.specs.Chain.{chain_of};
@@ -15,7 +17,7 @@ use format::Next;
 use tables::Tables;
 
 // A bucket, and how many records of its chain are passed. A caller may make one up.
-#[derive(Drop)]
+#[derive(Clone, Copy)]
 pub struct Position {
     pub bucket: usize,
     pub count: usize,
@@ -23,7 +25,7 @@ pub struct Position {
 
 // The answer from a position: with number 0 the next record and the position after it; with any
 // other the record is 0 and the position is as it came.
-#[derive(Drop)]
+#[derive(Clone, Copy)]
 pub struct Step {
     pub number: u32,
     pub place: usize,

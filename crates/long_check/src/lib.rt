@@ -1,6 +1,8 @@
 // What the long reading adds to the check: the records that the short one found sound are gone over
 // once more, by their fields alone, for what is behind their images. So the short check's code has
 // nothing of the long reading.
+#![tactic(auto)]
+
 ghost use Rattle.std.specs.Prelude.{◌≡◌, ◌+◌, ◌*◌, ◌≤◌, length};
 ghost use Rattle.format.specs.Layout.{entries_at};
 ghost use Rattle.format.specs.Record.{images_at, images};
@@ -18,7 +20,7 @@ use format::{CheckAnswer, Fault};
 use tables::{Tables, bucket_field};
 
 // What was broken first, and how many records were gone over.
-#[derive(Drop)]
+#[derive(Clone, Copy)]
 struct Scanned {
     fault: Fault,
     passed: usize,

@@ -1,4 +1,6 @@
 // A mark for each number, as bits of as many words as the caller lends: 32 numbers a word.
+#![tactic(auto)]
+
 ghost use Rattle.std.specs.Prelude.{◌≡◌};
 ghost use Rattle.marks.specs.Marks.{marked, Marks};
 

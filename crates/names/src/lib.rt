@@ -1,6 +1,8 @@
 // Whether a key was met before: a string, a name, an image list or an offset, among as many as the
 // caller lends words for. Those met are kept as an index: their offsets, in rising order of the keys, so that
 // one is found by halving.
+#![tactic(auto)]
+
 ghost use Rattle.std.specs.Prelude.{◌≡◌, List, ℕ, ◌≤◌, ◌<◌, length};
 ghost use Rattle.format.specs.String.{among};
 ghost use Rattle.keys.specs.Key.{key_at};
@@ -9,7 +11,7 @@ ghost use Rattle.names.specs.Index.{Rising, Represents, Within, Spotted, Inserte
 use keys::{Kind, Ordering, compare};
 
 // The entry of an index that has a key, or the one that it would be.
-#[derive(Drop)]
+#[derive(Clone, Copy)]
 pub enum Spot {
     Found(usize),
     Missing(usize),

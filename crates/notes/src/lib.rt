@@ -1,5 +1,7 @@
 // Judges what an IMAGE_DATA_OFFSET leads to: rules 22 to 24, part by part. A part is named by a
 // field, and one whose field holds 0 is not there. All sums are of 64 bits.
+#![tactic(auto)]
+
 ghost use Rattle.std.specs.Prelude.{◌≡◌, ◌+◌, ◌*◌, ◌≤◌, ◌<◌, ◌^◌, length};
 ghost use Rattle.format.specs.Fault.{fault, no_fault, first_fault, step_on};
 ghost use Rattle.format.specs.String.{extent};

@@ -8,7 +8,7 @@ use bigendian::{byte, u16_at};
 use judging::{Parts, icon_end};
 
 // Where the parts of a cache begin that stand behind its records.
-#[derive(Drop)]
+#[derive(Clone, Copy)]
 pub struct Begins {
     pub lists: usize,
     pub directories: usize,

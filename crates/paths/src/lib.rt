@@ -1,5 +1,7 @@
 // Paths: a string as a path with its segments, each judged where it ends, and whether a path may
 // stand in a catalogue.
+#![tactic(auto)]
+
 ghost use Rattle.std.specs.Prelude.{◌≡◌, ◌&&◌, ◌-◌, ◌≤◌, length, take, drop};
 ghost use Rattle.format.specs.String.{string, extent};
 ghost use Rattle.format.specs.Segments.{valid_segment, valid_segments, allowed_path};
@@ -9,7 +11,7 @@ use strings::{ended, within};
 
 // A string as a path, and whether the segments of its first 1,023 bytes are valid: of all of them,
 // unless it is too long.
-#[derive(Drop)]
+#[derive(Clone, Copy)]
 pub struct Path {
     pub extent: Extent,
     pub valid_segments: bool,

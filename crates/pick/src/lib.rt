@@ -1,5 +1,7 @@
 // The image of an icon that serves a screen: a layer above the search for the icon's name. The
 // caller lends six words for each directory of the cache, and the images are read where they stand.
+#![tactic(auto)]
+
 ghost use Rattle.std.specs.Prelude.{◌≡◌, true, ◌+◌, ◌*◌, ◌≤◌, length};
 ghost use Rattle.format.specs.Number.{be};
 ghost use Rattle.format.specs.Header.{header_fault, directories};
@@ -12,7 +14,7 @@ use format::Fault;
 
 // With number 0 the offset of the first image that fits, or 0 if none does; with 32 the index of
 // the word in the slice; with any other number the place of the fault.
-#[derive(Drop)]
+#[derive(Clone, Copy)]
 pub struct PickAnswer {
     pub number: u32,
     pub place: usize,
@@ -20,7 +22,7 @@ pub struct PickAnswer {
 
 // What is lent of one directory: its type (0 Fixed, 1 Scalable, 2 Threshold), then its keys Size,
 // Scale, MinSize, MaxSize and Threshold.
-#[derive(Drop)]
+#[derive(Clone, Copy)]
 struct Sizes {
     kind: u32,
     size: u32,

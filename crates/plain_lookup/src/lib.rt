@@ -5,6 +5,8 @@
 // stood in another bucket than its name's? The answer is `own-chain` in specs/Laws/Same.antt: in a
 // cache that the check accepts, each record that bears a name stands on the chain of that name's
 // bucket. So both lookups find the same record (`plain-promise`, there too).
+#![tactic(auto)]
+
 ghost use Rattle.std.specs.Prelude.{◌≡◌, length};
 ghost use Rattle.format.specs.Answer.{looked_up};
 ghost use Rattle.plain_lookup.specs.Plain.{plain_lookup, plain_words};

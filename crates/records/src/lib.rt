@@ -1,11 +1,15 @@
 // An icon record of a cache: rules 8 to 11 and 17, whether it bears a name, the words of its images,
 // and the answer of a lookup that found it.
+#![tactic(auto)]
+
 ghost use Rattle.std.specs.Prelude.{◌≡◌, ◌+◌, ◌*◌, ◌^◌, ◌<◌, ◌≤◌, true, ◌++◌, length, drop};
 ghost use Rattle.format.specs.Number.{be};
+ghost use Rattle.format.specs.Fault.{no_fault};
 ghost use Rattle.format.specs.String.{allowed};
 ghost use Rattle.format.specs.Header.{directories};
-ghost use Rattle.format.specs.Record.{name_part, bears_name, images_at, images, valid_image_list, valid_image, images_fault, name_fault, list_fault, first_word, image_words};
+ghost use Rattle.format.specs.Record.{name_part, bears_name, images_at, images, valid_image_list, valid_image, images_fault, name_fault, list_fault, record_fault, first_word, image_words};
 ghost use Rattle.format.specs.Call.{found_answer, answer_words};
+ghost use Rattle.format.specs.declared.Reading.TheVariants.{Short};
 ghost use Rattle.tables.specs.Tables.{TablesOf};
 ghost use Rattle.records.specs.ValidWords.{valid_words};
 
@@ -16,7 +20,7 @@ use tables::{Tables, list_inside};
 
 // The first words of images with a valid index: `span` of them from `lowest` on. The index is the
 // high half of the word, so those words follow one another and one test settles it.
-#[derive(Drop)]
+#[derive(Clone, Copy)]
 pub struct ValidWords {
     pub lowest: u32,
     pub span: u32,
@@ -110,12 +114,20 @@ fn name_part(cache: &[u8], record: usize) -> &[u8]
     strings::from(cache, at)
 }
 
-// Rules 8, 17 and 9 on the name of `record`, on the chain of `bucket`.
-pub fn judge_name(cache: &[u8], t: Tables, bucket: u32, record: usize) -> Fault
+// Rules 8, 17 and 9 on the name of `record`, on the chain of `bucket`. A name that is `known` to
+// keep them isn't read.
+pub fn judge_name(cache: &[u8], t: Tables, bucket: u32, record: usize, known: bool) -> Fault
     requires tables_of { TablesOf cache.now t }
     requires record_in_bounds { «record» + 12 ≤ length cache.now }
+    requires record_value { known ≡ true → name_fault cache.now bucket «record» ≡ no_fault }
     ensures { result ≡ name_fault cache.now bucket «record» }
 {
+    if known {
+        return Fault {
+            number: 0,
+            place: 0,
+        };
+    }
     let name = strings::read_name(name_part(cache, record));
     let extent = name.extent;
     let Extent::Whole(_) = extent else {
@@ -134,7 +146,7 @@ pub fn judge_name(cache: &[u8], t: Tables, bucket: u32, record: usize) -> Fault
 }
 
 // Rules 10 and 11 on the images of `record`.
-pub fn judge_images(cache: &[u8], t: Tables, record: usize) -> Fault
+fn judge_images(cache: &[u8], t: Tables, record: usize) -> Fault
     requires tables_of { TablesOf cache.now t }
     requires record_in_bounds { «record» + 12 ≤ length cache.now }
     ensures { result ≡ list_fault cache.now «record» }
@@ -149,6 +161,21 @@ pub fn judge_images(cache: &[u8], t: Tables, record: usize) -> Fault
     let m = u32_at(cache, at);
     let n = t.directories;
     images(cache, n, m, at + 4)
+}
+
+// The first of the rules 8 to 11 and 17 that `record` breaks, on the chain of `bucket`. A name that
+// is `known` to keep 8, 17 and 9 isn't read.
+pub fn judge(cache: &[u8], t: Tables, bucket: u32, record: usize, known: bool) -> Fault
+    requires tables_of { TablesOf cache.now t }
+    requires record_in_bounds { «record» + 12 ≤ length cache.now }
+    requires record_value { known ≡ true → name_fault cache.now bucket «record» ≡ no_fault }
+    ensures { result ≡ record_fault Short cache.now bucket «record» }
+{
+    let fault = judge_name(cache, t, bucket, record, known);
+    if fault.number != 0 {
+        return fault;
+    }
+    judge_images(cache, t, record)
 }
 
 // Whether `record` has a whole name and it is `name`, one that may be asked for.

@@ -1,5 +1,7 @@
 // The first name on a chain that a record before it has too. The records lie inside, and nothing is
 // judged.
+#![tactic(auto)]
+
 ghost use Rattle.std.specs.Prelude.{◌≡◌, List, ℕ, ◌≤◌, ◌<◌, length};
 ghost use Rattle.format.specs.Layout.{name_field};
 ghost use Rattle.format.specs.Number.{be};
@@ -15,7 +17,7 @@ use names::{holds, met};
 use rounds::ahead;
 
 // A record and its NAME_OFFSET.
-#[derive(Drop)]
+#[derive(Clone, Copy)]
 struct Icon {
     offset: usize,
     name: u32,

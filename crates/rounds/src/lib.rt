@@ -1,5 +1,7 @@
 // Where a chain comes back to a record that it has met. Only the fields that lead from record to
 // record are read, and nothing is judged.
+#![tactic(auto)]
+
 ghost use Rattle.std.specs.Prelude.{◌≡◌, ◌+◌, ◌^◌, ◌≤◌, ◌<◌, length};
 ghost use Rattle.rounds.specs.Stepping.{InsideBelow, Runs, LeadsIn, Turning};
 ghost use Rattle.rounds.specs.Stepping as definition;
@@ -8,7 +10,7 @@ use bigendian::u32_at;
 
 // A round: `start` steps lead to a field of it, and `steps` more lead back to that field. 0 steps
 // where none is found.
-#[derive(Drop)]
+#[derive(Clone, Copy)]
 pub struct Round {
     pub start: usize,
     pub steps: usize,

@@ -1,5 +1,7 @@
 // Saves what can be saved of a damaged cache: a catalogue of what is sound, and a report of what
 // went.
+#![tactic(auto)]
+
 ghost use Rattle.std.specs.Prelude.{◌≡◌, ◌≤◌, length};
 ghost use Rattle.tables.specs.Tables.{TablesOf};
 ghost use Rattle.salvage_spec.specs.Call as calls;

@@ -27,7 +27,7 @@ pub fn meet(
     requires { TablesOf cache.now t × («record» + 12 ≤ length cache.now) × (n < length index.old) }
     ensures { (ts : List (List ℕ)) → Represents (key_at Ended cache.now) index.old n ts → Meets cache.now bucket «record» index.new n ts result }
 {
-    let fault = judge_name(cache, t, bucket, record);
+    let fault = judge_name(cache, t, bucket, record, false);
     if fault.number != 0 {
         return fault;
     }

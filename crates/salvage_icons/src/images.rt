@@ -15,7 +15,7 @@ use salvage_paths::{KeptImage, keep_image};
 use tables::Tables;
 
 // Where the images of a record begin, and how many they are.
-#[derive(Drop)]
+#[derive(Clone, Copy)]
 pub struct ImageList {
     pub first: usize,
     pub count: usize,

@@ -1,5 +1,7 @@
 // The directories of a damaged cache: those with a good path are kept and close up, the others have
 // a row; and so what becomes of an image.
+#![tactic(auto)]
+
 ghost use Rattle.std.specs.Prelude.{◌≡◌, ◌++◌, ◌+◌, ◌^◌, ◌≤◌, ◌<◌, length, take, drop};
 ghost use Rattle.format.specs.Bytes.{bytes};
 ghost use Rattle.format.specs.Header.{directories};
@@ -14,7 +16,7 @@ use records::{ValidWords, valid_image};
 use tables::{Tables, path};
 
 // How many directories are kept, and where the next bytes and words go.
-#[derive(Drop)]
+#[derive(Clone, Copy)]
 pub struct Closed {
     pub kept: u16,
     pub bytes: usize,
@@ -22,7 +24,7 @@ pub struct Closed {
 }
 
 // What becomes of an image.
-#[derive(Drop)]
+#[derive(Clone, Copy)]
 pub enum KeptImage {
     // It breaks rule 11, or its directory went.
     Goes,

@@ -1,5 +1,7 @@
 // How far the walk of a chain goes that salvage makes: to its end, to a record that ends it, or to
 // one that it has met before.
+#![tactic(auto)]
+
 ghost use Rattle.std.specs.Prelude.{◌≡◌, ◌+◌, ◌^◌, ◌≤◌, ◌<◌, length};
 ghost use Rattle.format.specs.Fault.{fault};
 ghost use Rattle.format.specs.Header.{buckets};
@@ -13,7 +15,7 @@ use rounds::{Round, lead_in};
 use tables::{Tables, bucket_field};
 
 // What a field of a chain names.
-#[derive(Drop)]
+#[derive(Clone, Copy)]
 pub enum Turn {
     // The end value.
     Ended,
@@ -26,7 +28,7 @@ pub enum Turn {
 }
 
 // A record that stays behind, its step, and the step until which it stays.
-#[derive(Drop)]
+#[derive(Clone, Copy)]
 pub struct Mark {
     pub behind: usize,
     pub stays: usize,
@@ -34,14 +36,14 @@ pub struct Mark {
 }
 
 // How many records a walk meets, and what cuts the chain behind them, if anything does.
-#[derive(Drop)]
+#[derive(Clone, Copy)]
 pub struct Reached {
     pub met: usize,
     pub cut: Fault,
 }
 
 // How a chain goes.
-#[derive(Drop)]
+#[derive(Clone, Copy)]
 pub enum Way {
     // It comes to an end.
     Stops(Reached),
@@ -62,7 +64,7 @@ fn look(cache: &[u8], t: Tables, bucket: u32, field: usize) -> Turn
     if cache.len() < record + 12 {
         return Turn::Outside;
     }
-    let fault = judge_name(cache, t, bucket, record);
+    let fault = judge_name(cache, t, bucket, record, false);
     if fault.number != 0 {
         return Turn::Misnamed;
     }

@@ -1,5 +1,7 @@
 // The walk over all chains of a damaged cache: what is kept is put into a catalogue, and what went
 // into a report, each as far as there is room.
+#![tactic(auto)]
+
 ghost use Rattle.std.specs.Prelude.{◌≡◌, ◌+◌, ◌^◌, ◌≤◌, ◌<◌, length};
 ghost use Rattle.format.specs.Header.{buckets};
 ghost use Rattle.tables.specs.Tables.{TablesOf};
@@ -17,7 +19,7 @@ use salvage_reach::reach;
 use tables::{Tables, bucket_field};
 
 // How many icons are kept so far, and where the next bytes and words go.
-#[derive(Drop)]
+#[derive(Clone, Copy)]
 pub struct Sums {
     pub icons: usize,
     pub bytes: usize,

@@ -1,4 +1,6 @@
 // The search for a name on the chain of its bucket.
+#![tactic(auto)]
+
 ghost use Rattle.std.specs.Prelude.{◌≡◌, true, false, ◌+◌, ◌-◌, ◌≤◌, ◌<◌, length};
 ghost use Rattle.format.specs.String.{allowed};
 ghost use Rattle.format.specs.Header.{buckets};
@@ -12,12 +14,12 @@ ghost use Rattle.search.specs.Seek.{seen, Seeks, SeeksTo};
 use bigendian::u32_at;
 use chains::{at_first, go_round, horizon, opens, unnamed};
 use format::{Found, Next};
-use records::{bears, judge_images, judge_name};
+use records::{bears, judge};
 use rounds::turning;
 use tables::{Tables, bucket_field};
 
 // What a field leads to, and whether that is a record that bears the name looked for.
-#[derive(Drop)]
+#[derive(Clone, Copy)]
 struct Seen {
     next: Next,
     bears: bool,
@@ -25,7 +27,7 @@ struct Seen {
 
 // How many records of a chain were opened, what comes next, and whether that is a record that bears
 // the name looked for.
-#[derive(Drop)]
+#[derive(Clone, Copy)]
 struct Sought {
     opened: usize,
     next: Next,
@@ -57,13 +59,7 @@ fn seek(cache: &[u8], t: Tables, bucket: u32, field: usize, name: &[u8]) -> Seen
         return nameless(Next::Broken(7, field));
     }
     let bears = bears(cache, record, name);
-    if !bears {
-        let fault = judge_name(cache, t, bucket, record);
-        if fault.number != 0 {
-            return nameless(Next::Broken(fault.number, fault.place));
-        }
-    }
-    let fault = judge_images(cache, t, record);
+    let fault = judge(cache, t, bucket, record, bears);
     if fault.number != 0 {
         return nameless(Next::Broken(fault.number, fault.place));
     }

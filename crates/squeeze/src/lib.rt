@@ -1,6 +1,8 @@
 // Squeezes the dead bytes out of an accepted cache: rewrites it in the layout of a written one,
 // with its records in the check's order, equal names dropped, and equal strings and lists stored
 // once.
+#![tactic(auto)]
+
 ghost use Rattle.std.specs.Prelude.{◌≡◌, ◌++◌, ◌^◌, ◌≤◌, ◌<◌, length, drop};
 ghost use Rattle.format.specs.Chain.{all_records};
 ghost use Rattle.format.specs.Header.{buckets};
@@ -23,7 +25,7 @@ use squeeze_records::records;
 use tables::Tables;
 
 // How many icons stay, and how many bytes their lists and all strings take.
-#[derive(Drop)]
+#[derive(Clone, Copy)]
 struct Sizes {
     icons: usize,
     lists: usize,

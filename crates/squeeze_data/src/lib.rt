@@ -1,4 +1,6 @@
 // Whether an image of an accepted cache has image data: 25 at the first in the check's order.
+#![tactic(auto)]
+
 ghost use Rattle.std.specs.Prelude.{◌≡◌, ◌+◌, ◌*◌, ◌≤◌, length};
 ghost use Rattle.format.specs.Chain.{all_records};
 ghost use Rattle.format.specs.declared.Reading.TheVariants.{Short};

@@ -1,5 +1,7 @@
 // The icons of an accepted cache that stay when it is squeezed, one by one in the check's order:
 // the first of each name. The records that have a name of one before them are marked.
+#![tactic(auto)]
+
 ghost use Rattle.std.specs.Prelude.{◌≡◌, true, false, not, ◌+◌, ◌≤◌, length};
 ghost use Rattle.keys.specs.Key.{key_at};
 ghost use Rattle.keys.specs.declared.Kind.TheVariants.{Ended};
@@ -19,7 +21,7 @@ use tables::{Tables, bucket_field};
 
 // An icon: its number among those that stay, and its record. Behind the last one the record is the
 // end value.
-#[derive(Drop)]
+#[derive(Clone, Copy)]
 pub struct Icons {
     pub icon: usize,
     pub at: Cursor,

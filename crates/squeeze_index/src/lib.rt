@@ -1,4 +1,6 @@
 // An index of parts that are stored once, and beside it where each is stored.
+#![tactic(auto)]
+
 ghost use Rattle.std.specs.Prelude.{◌≤◌, ◌<◌, length};
 ghost use Rattle.squeeze_index.specs.Maps.{Adds};
 

@@ -1,6 +1,8 @@
 // The image lists of a squeezed cache, each stored once, and a table that says where the list of
 // each icon is. Where there are more lists than the index has room for, it goes block by block: the
 // cells of the table tell which icons are left.
+#![tactic(auto)]
+
 ghost use Rattle.std.specs.Prelude.{◌≡◌, List, ℕ, ◌+◌, ◌*◌, ◌^◌, ◌≤◌, ◌<◌, length};
 ghost use Rattle.format.specs.Number.{be};
 ghost use Rattle.tables.specs.Tables.{Sound};
@@ -18,7 +20,7 @@ use tables::Tables;
 
 // How far the lists are stored: up to which icon, how many of them are in the index, and where the
 // next one goes.
-#[derive(Drop)]
+#[derive(Clone, Copy)]
 pub struct Shared {
     pub until: usize,
     pub entries: usize,

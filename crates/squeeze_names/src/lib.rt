@@ -1,5 +1,7 @@
 // Which records of an accepted cache have a name of one before them, as marks: one for each record
 // in the check's order. Equal names lie on one chain, so each chain is looked through by itself.
+#![tactic(auto)]
+
 ghost use Rattle.std.specs.Prelude.{◌≡◌, List, ◌∷◌, false, ℕ, ◌+◌, ◌^◌, ◌≤◌, ◌<◌, length};
 ghost use Rattle.format.specs.String.{among};
 ghost use Rattle.keys.specs.Key.{key_at};
@@ -50,7 +52,7 @@ fn look(cache: &[u8], name: u32, number: usize, index: &[u32], entries: usize, m
 
 // A block of names that are taken into an index: how many, as how many entries, and the field
 // behind them.
-#[derive(Drop)]
+#[derive(Clone, Copy)]
 struct Block {
     names: usize,
     entries: usize,

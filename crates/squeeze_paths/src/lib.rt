@@ -1,4 +1,6 @@
 // The directory list of a squeezed cache, and its paths: each string once, at its first use.
+#![tactic(auto)]
+
 ghost use Rattle.std.specs.Prelude.{◌≡◌, List, ℕ, ◌+◌, ◌*◌, ◌^◌, ◌≤◌, ◌<◌, length};
 ghost use Rattle.format.specs.Header.{directories};
 ghost use Rattle.tables.specs.Tables.{Sound};
@@ -11,7 +13,7 @@ use squeeze_index::add;
 use tables::Tables;
 
 // How many paths are stored, as entries of the index, and where the next string goes.
-#[derive(Drop)]
+#[derive(Clone, Copy)]
 pub struct Texts {
     pub entries: usize,
     pub end: usize,

@@ -1,5 +1,7 @@
 // The records of a squeezed cache, each appended to the chain of its bucket, and the names as
 // strings. The icons come bucket by bucket, so that only the bucket of the last one is remembered.
+#![tactic(auto)]
+
 ghost use Rattle.std.specs.Prelude.{◌≡◌, List, ℕ, ◌+◌, ◌*◌, ◌^◌, ◌≤◌, ◌<◌, length};
 ghost use Rattle.format.specs.Header.{buckets, directories};
 ghost use Rattle.squeeze_paths.specs.Pathed.{strings_up_to};
@@ -23,7 +25,7 @@ use tables::Tables;
 
 // Which icon is put: its number and its bucket, that of the icon before it, where the records
 // begin, and where the table is that says where the lists are.
-#[derive(Drop)]
+#[derive(Clone, Copy)]
 struct Place {
     icon: usize,
     bucket: u32,

@@ -1,4 +1,6 @@
 // How many bytes the image lists of a squeezed cache take, each counted once.
+#![tactic(auto)]
+
 ghost use Rattle.std.specs.Prelude.{◌≡◌, ℕ, ◌+◌, ◌*◌, ◌^◌, ◌≤◌, ◌<◌, length, get_or};
 ghost use Rattle.tables.specs.Tables.{Sound};
 ghost use Rattle.squeeze_names.specs.Repeated.{RepeatsMarked};
@@ -14,7 +16,7 @@ use tables::Tables;
 
 // What is counted from the list of one icon on: up to which icon the lists are in the index, as how
 // many entries, and how many bytes those lists take that don't come again behind it.
-#[derive(Drop)]
+#[derive(Clone, Copy)]
 pub struct Counted {
     pub until: usize,
     pub entries: usize,

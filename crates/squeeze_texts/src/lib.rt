@@ -1,5 +1,7 @@
 // The names of a squeezed cache as strings: a name that is a path uses the path's, and any other
 // has its own behind the paths.
+#![tactic(auto)]
+
 ghost use Rattle.std.specs.Prelude.{◌≡◌, ℕ, ◌+◌, ◌^◌, ◌≤◌, ◌<◌, length, drop, true};
 ghost use Rattle.format.specs.String.{extent, is_whole};
 ghost use Rattle.format.specs.Words.{Accepted};
@@ -17,7 +19,7 @@ use strings::name_length;
 use tables::Tables;
 
 // Where a name is stored, and where the next string goes.
-#[derive(Drop)]
+#[derive(Clone, Copy)]
 pub struct Stored {
     pub place: usize,
     pub end: usize,
@@ -50,7 +52,7 @@ pub fn store(
 }
 
 // How many icons stay, and where the strings end.
-#[derive(Drop)]
+#[derive(Clone, Copy)]
 pub struct Sizes {
     pub icons: usize,
     pub end: usize,

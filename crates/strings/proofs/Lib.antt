@@ -1,3 +1,2 @@
 pub mod Tags
-pub mod Beginning
-pub mod Measured
+pub mod Wrapping

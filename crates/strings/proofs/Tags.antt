@@ -1,10 +1,5 @@
 -- What a `match` on an `Extent` tells: the variants are counted from 0, and `Whole` is the first.
-use mathlib.Core.Path.{◌≡◌, refl, ◌∙◌}
-use mathlib.Core.Logic.{◌⊎◌, ⊎_elim}
-use mathlib.Core.Bool.{true, false}
-use native.Mathlib.Omega.{arith}
-use borrow.Author.Tests.{eq-eqb, ne_eqb}
-use lib.Dec.{eqb}
+use Rattle.std.proofs.Common.{◌≡◌, true, false, eqb, ◌⊎◌, refl, ◌∙◌, ⊎_elim, arith, eq-eqb, ne_eqb}
 use denote.Enum.Declared.{tag_of}
 use Rattle.format.specs.contracts.Extent.{the_type}
 use Rattle.format.specs.declared.Extent.{Extent}

@@ -1,23 +1,24 @@
 // Strings that end in a zero byte: what one is, and which rule it breaks by that; as a name, its
 // hash and its length, whether it is the one asked for, and whether it may be asked for. A string
 // is handed over as the part of the buffer from its offset on.
-ghost use Rattle.std.specs.Prelude.{◌≡◌, true, ◌&&◌, ltb, eqb, List, ℕ, ◌%◌, ◌≤◌, length, take, drop};
-ghost use Rattle.format.specs.String.{string, extent, is_whole, string_fault, same_bytes, spells_name, hash, text_within, allowed};
+#![tactic(auto)]
+
+ghost use Rattle.std.specs.Prelude.{◌≡◌, ℕ, ◌*◌, ◌%◌, ◌^◌, true, List, length, take, drop};
+ghost use Rattle.format.specs.String.{string, extent, is_whole, string_fault, spells_name, hash, text_within, allowed};
 ghost use Rattle.format.specs.String as definition;
 
-use bigendian::u64_at;
 use format::{Extent, Fault};
-use name_hash::measured;
+use std::num::{wrapping_add_u8, wrapping_add_u32, wrapping_sub_u32};
 
 // A string as a name, and the hash of its first 255 bytes: of all of them, unless it is too long.
-#[derive(Drop)]
+#[derive(Clone, Copy)]
 pub struct Name {
     pub extent: Extent,
     pub hash: u32,
 }
 
 // Whether a name may be asked for, and its hash where it may.
-#[derive(Drop)]
+#[derive(Clone, Copy)]
 pub struct Query {
     pub allowed: bool,
     pub hash: u32,
@@ -67,46 +68,66 @@ pub fn judge(extent: Extent, rule: u32, place: usize) -> Fault
     }
 }
 
-// The bytes at the front of `part` that a name can have.
-fn front(part: &[u8]) -> &[u8]
-    ensures { result.now ≡ take 255 part.now }
+// 31 times `h`, modulo 2^32: the `(h << 5) - h` of the note that `read_name` quotes. Bits that
+// leave the 32 are lost, as in C.
+fn times31(h: u32) -> u32
+    ensures { result ≡ (31 * h) % 2 ^ 32 }
 {
-    if part.len() <= 255 {
-        part
-    } else {
-        &part[..255]
-    }
+    wrapping_sub_u32(h << 5, h)
 }
 
-// What the string at the front of `part` is as a name. Of the first 255 bytes there are `few`, and `n`
-// of them are the string's; where `n` is less, a zero byte ends it.
-fn extent_at(part: &[u8], few: usize, n: usize) -> Extent
-    requires { (few ≡ length (take 255 part.now)) × (n ≡ length (string (take 255 part.now))) }
-    ensures { result ≡ extent 255 part.now }
+// A byte as a signed number, modulo 2^32. 128 is added within 8 bits, where a byte from 128 on
+// wraps, and taken away within 32 bits, where such a byte then wraps below 0. The compiler makes
+// one sign extension of it.
+fn signed(byte: u8) -> u32
+    ensures { result ≡ definition.signed byte }
 {
-    if n < few {
-        return ended(n);
-    }
-    if n == part.len() {
-        return Extent::Cut;
-    }
-    if part[n] == 0 {
-        return ended(n);
-    }
-    Extent::Long
+    let raised = wrapping_add_u8(byte, 128) as u32;
+    wrapping_sub_u32(raised, 128)
 }
 
-// What the string at the front of `part` is as a name, and its hash, by one pass over its bytes:
-// most of a lookup is the reading of the names that it passes.
+// What the string at the front of `part` is as a name, and its hash. One loop serves both: most of
+// a lookup is the reading of the names that it passes. No more than 256 bytes are read.
+//
+// The hash is computed as the freedesktop note (source document 000) prints it under "Notes", in
+// `icon_str_hash`, each step modulo 2^32:
+//
+//     unsigned int h = *p;
+//
+//     if (h)
+//       for (p += 1; *p != '\0'; p++)
+//         h = (h << 5) - h + *p;
+//
+// `times31` is the note's `(h << 5) - h`, and `signed` its `*p`. Here the first byte goes through
+// the loop too: from 0, `(0 << 5) - 0 + *p` is `*p`. `if (h)` is left out: the first byte of an
+// allowed name is not zero, so the test always holds.
 pub fn read_name(part: &[u8]) -> Name
     ensures extent { result.extent ≡ extent 255 part.now }
     ensures hash { result.hash ≡ hash (take 255 (string part.now)) }
 {
-    let first = front(part);
-    let read = measured(first);
+    let mut hash = 0;
+    let mut i = 0;
+    while i < part.len() {
+        let byte = part[i];
+        if byte == 0 {
+            return Name {
+                extent: ended(i),
+                hash,
+            };
+        }
+        if i == 255 {
+            return Name {
+                extent: Extent::Long,
+                hash,
+            };
+        }
+        // h = (h << 5) - h + *p
+        hash = wrapping_add_u32(times31(hash), signed(byte));
+        i += 1;
+    }
     Name {
-        extent: extent_at(part, first.len(), (read / 4294967296) as usize),
-        hash: (read % 4294967296) as u32,
+        extent: Extent::Cut,
+        hash,
     }
 }
 
@@ -124,41 +145,6 @@ pub fn name_length(cache: &[u8], at: usize) -> usize
     }
 }
 
-// Whether `part` begins with `name`, byte by byte.
-fn begins(part: &[u8], name: &[u8]) -> bool
-    requires { length name.now ≤ length part.now }
-    ensures { result ≡ same_bytes (take (length name.now) part.now) name.now }
-{
-    let end = name.len();
-    let mut i = 0;
-    while i < end {
-        if part[i] != name[i] {
-            return false;
-        }
-        i += 1;
-    }
-    true
-}
-
-// The same of a name of eight bytes or more, eight at a time and the last eight first.
-fn begins_by_eights(part: &[u8], name: &[u8]) -> bool
-    requires { (8 ≤ length name.now) × (length name.now ≤ length part.now) }
-    ensures { result ≡ same_bytes (take (length name.now) part.now) name.now }
-{
-    let last = name.len() - 8;
-    if u64_at(part, last) != u64_at(name, last) {
-        return false;
-    }
-    let mut i = 0;
-    while i < last {
-        if u64_at(part, i) != u64_at(name, i) {
-            return false;
-        }
-        i += 8;
-    }
-    true
-}
-
 // Whether the string at the front of `part` is whole and is `name`, one that may be asked for. Such
 // a name has no zero byte, so the part has to begin with the name and a zero byte.
 pub fn spells(part: &[u8], name: &[u8]) -> bool
@@ -169,14 +155,14 @@ pub fn spells(part: &[u8], name: &[u8]) -> bool
     if part.len() <= end {
         return false;
     }
-    if part[end] != 0 {
-        return false;
+    let mut i = 0;
+    while i < end {
+        if part[i] != name[i] {
+            return false;
+        }
+        i += 1;
     }
-    if end < 8 {
-        begins(part, name)
-    } else {
-        begins_by_eights(part, name)
-    }
+    part[end] == 0
 }
 
 // Whether a text of `size` bytes has 1 to a limit of them and none is zero, by what the text is as
@@ -193,26 +179,15 @@ pub fn within(size: usize, extent: Extent) -> bool
     }
 }
 
-// Whether a name of `there` bytes, of which `found` stand before a zero byte and the limit, may be
-// asked for.
-fn all_of(found: usize, there: usize) -> bool
-    ensures { result ≡ (ltb 0 found && eqb found there) }
-{
-    if found == 0 {
-        return false;
-    }
-    found == there
-}
-
 // Whether `name` may be asked for, with 1 to 255 bytes and none of them zero, and its hash.
 pub fn asked(name: &[u8]) -> Query
     ensures allowed { result.allowed ≡ allowed name.now }
     ensures hash { result.hash ≡ hash (take 255 (string name.now)) }
 {
-    let read = measured(front(name));
-    let n = (read / 4294967296) as usize;
+    let read = read_name(name);
+    let extent = read.extent;
     Query {
-        allowed: all_of(n, name.len()),
-        hash: (read % 4294967296) as u32,
+        allowed: within(name.len(), extent),
+        hash: read.hash,
     }
 }

@@ -1,4 +1,6 @@
 // The header of a cache, its directory list and its hash: rules 1 to 6, 16 and 17.
+#![tactic(auto)]
+
 ghost use Rattle.std.specs.Prelude.{◌≡◌, ◌+◌, ◌^◌, ◌≤◌, ◌<◌, length};
 ghost use Rattle.format.specs.Part.{list_inside};
 ghost use Rattle.format.specs.Header.{valid_version, header_fault, directories, paths_fault};
@@ -8,7 +10,7 @@ use bigendian::{u16_at, u32_at};
 use format::{Extent, Fault};
 
 // Where the hash and the directory list of a cache stand, and how many entries they have.
-#[derive(Drop)]
+#[derive(Clone, Copy)]
 pub struct Tables {
     pub buckets_at: u32,
     pub buckets: u32,
@@ -18,7 +20,7 @@ pub struct Tables {
 
 // What is judged of a path, and where it stands if it keeps the rules; else its start and its
 // length are 0.
-#[derive(Drop)]
+#[derive(Clone, Copy)]
 pub struct JudgedPath {
     pub fault: Fault,
     pub start: usize,
@@ -42,8 +44,11 @@ fn valid_version(cache: &[u8]) -> bool
     requires { 12 ≤ length cache.now }
     ensures { result ≡ valid_version cache.now }
 {
-    // 1 in the first two bytes, 0 in the next two
-    u32_at(cache, 0) == 0x1_0000
+    if u16_at(cache, 0) == 1 {
+        u16_at(cache, 2) == 0
+    } else {
+        false
+    }
 }
 
 // The count of the list whose offset stands at `field`, or `other` where the list doesn't lie

@@ -1,5 +1,7 @@
 // Writes a cache from a catalogue: header, hash, records, image lists, directory list and strings,
 // in catalogue order without gaps.
+#![tactic(auto)]
+
 mod appending;
 
 ghost use Rattle.std.specs.Prelude.{◌≡◌, length};

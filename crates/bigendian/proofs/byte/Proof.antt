@@ -6,13 +6,13 @@ use Rattle.format.specs.Laws.Reads.{be-byte}
 use Rattle.bigendian.proofs.byte.Statement.{statement}
 use Rattle.bigendian.proofs.byte.Tie as tie
 
-cast-result : tie.Need-overflow-cast-result
-cast-result c = omega (arith, c.shared-slice-known.given c.before.args.at)
+cast-result : tie.Need-overflow_cast-result
+cast-result c = omega (arith, c.shared_slice_known-1.given c.before.args.at)
 
 returns : tie.Need-returns
 returns c =
     let a = c.before.args in
-    omega (arith, be-byte a.s.now a.at, c.shared-slice-known.given a.at)
+    omega (arith, be-byte a.s.now a.at, c.shared_slice_known-1.given a.at)
 
-pub byte-spec : {M : Type 1} → statement M
-byte-spec = tie.close (tie.spec (λ c. search rules) cast-result returns)
+pub byte_spec : {M : Type 1} → statement M
+byte_spec = tie.close (tie.spec (λ c. search rules) cast-result returns)

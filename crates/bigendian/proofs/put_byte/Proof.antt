@@ -18,5 +18,5 @@ stored s p n l h = rw (mod-eq_of_lt l) (sets-eq (n ∷ []) s p (omega arith))
 returns : tie.Need-returns
 returns c = stored c.args.out.now c.args.at c.args.n (omega arith) (omega arith)
 
-pub put-byte-spec : {M : Type 1} → statement M
-put-byte-spec = tie.close (tie.spec (λ c. search rules) (λ c. search rules) returns)
+pub put_byte_spec : {M : Type 1} → statement M
+put_byte_spec = tie.close (tie.spec (λ c. search rules) (λ c. search rules) returns)

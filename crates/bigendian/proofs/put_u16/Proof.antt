@@ -10,10 +10,10 @@ returns : tie.Need-returns
 returns c =
     let first = c.before.before.before.before.before.before in
     let a = first.before.before.before.args in
-    put-join 1 1 a.out.now a.at a.n (omega arith) first.put_byte.ensures c.before.before.put-byte2.ensures
+    put-join 1 1 a.out.now a.at a.n (omega arith) first.put_byte.ensures c.before.before.put_byte-2.ensures
 
-pub put-u16-spec : {M : Type 1} → statement M
-put-u16-spec =
+pub put_u16_spec : {M : Type 1} → statement M
+put_u16_spec =
     tie.close
     (tie.spec
     (λ c. search rules)

@@ -10,10 +10,10 @@ returns : tie.Need-returns
 returns c =
     let first = c.before.before.before.before.before.before in
     let a = first.before.before.before.args in
-    put-join 2 2 a.out.now a.at a.n (omega arith) first.put-u16.ensures c.before.before.put-u162.ensures
+    put-join 2 2 a.out.now a.at a.n (omega arith) first.put_u16.ensures c.before.before.put_u16-2.ensures
 
-pub put-u32-spec : {M : Type 1} → statement M
-put-u32-spec =
+pub put_u32_spec : {M : Type 1} → statement M
+put_u32_spec =
     tie.close
     (tie.spec
     (λ c. search rules)

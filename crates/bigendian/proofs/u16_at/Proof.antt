@@ -9,6 +9,6 @@ use Rattle.bigendian.proofs.u16_at.Tie as tie
 returns : tie.Need-returns
 returns c = let a = c.before.before.before.args in omega (arith, be-join 1 1 a.s.now a.at)
 
-pub u16-at-spec : {M : Type 1} → statement M
-u16-at-spec =
+pub u16_at_spec : {M : Type 1} → statement M
+u16_at_spec =
     tie.close (tie.spec (λ c κs. search rules) (λ c. search rules) (λ c κs. search rules) (λ c. search rules) (λ c. search rules) returns)

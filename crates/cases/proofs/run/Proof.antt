@@ -3,10 +3,10 @@ use Rattle.std.proofs.Common.{◌≡◌, ◌-◌, length, rules}
 use Rattle.cases.proofs.run.Statement.{statement}
 use Rattle.cases.proofs.run.Tie as tie
 
-abbrev invariant-loop : tie.invariant-loop
+abbrev invariant-loop : tie.invariant-loop-at
 invariant-loop script cache₀ kept₀ case₀ lengths₀ at₀ cache kept case lengths at = (length cache ≡ length cache₀) × (length kept ≡ length kept₀)
 
-abbrev decreases-loop : tie.decreases-loop
+abbrev decreases-loop : tie.decreases-loop-at
 decreases-loop script cache₀ kept₀ case₀ lengths₀ at₀ cache kept case lengths at = length script - at
 
 pub run_spec : {M : Type 1} → statement M

@@ -3,14 +3,14 @@ use Rattle.std.proofs.Common.{◌-◌, rules}
 use Rattle.cases_lent.proofs.count_right.Statement.{statement}
 use Rattle.cases_lent.proofs.count_right.Tie as tie
 
-abbrev invariant-loop : tie.invariant-loop
+abbrev invariant-loop : tie.invariant-loop-i
 invariant-loop words count₀ i₀ count i = Unit {0}
 
-abbrev decreases-loop : tie.decreases-loop
+abbrev decreases-loop : tie.decreases-loop-i
 decreases-loop words count₀ i₀ count i = 1024 - i
 
-pub count-right-spec : {M : Type 1} → statement M
-count-right-spec =
+pub count_right_spec : {M : Type 1} → statement M
+count_right_spec =
     tie.close
     (tie.spec
     invariant-loop

@@ -3,14 +3,14 @@ use Rattle.std.proofs.Common.{◌-◌, length, rules}
 use Rattle.cases_lent.proofs.sum.Statement.{statement}
 use Rattle.cases_lent.proofs.sum.Tie as tie
 
-abbrev invariant-loop : tie.invariant-loop
+abbrev invariant-loop : tie.invariant-loop-i
 invariant-loop words sum₀ i₀ sum i = Unit {0}
 
-abbrev decreases-loop : tie.decreases-loop
+abbrev decreases-loop : tie.decreases-loop-i
 decreases-loop words sum₀ i₀ sum i = length words - i
 
-pub sum-spec : {M : Type 1} → statement M
-sum-spec =
+pub sum_spec : {M : Type 1} → statement M
+sum_spec =
     tie.close
     (tie.spec
     invariant-loop

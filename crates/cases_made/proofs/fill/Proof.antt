@@ -3,10 +3,10 @@ use Rattle.std.proofs.Common.{◌≡◌, ◌-◌, length, rules}
 use Rattle.cases_made.proofs.fill.Statement.{statement}
 use Rattle.cases_made.proofs.fill.Tie as tie
 
-abbrev invariant-loop : tie.invariant-loop
+abbrev invariant-loop : tie.invariant-loop-i
 invariant-loop cache₀ at count value i₀ cache i = length cache ≡ length cache₀
 
-abbrev decreases-loop : tie.decreases-loop
+abbrev decreases-loop : tie.decreases-loop-i
 decreases-loop cache₀ at count value i₀ cache i = count - i
 
 pub fill_spec : {M : Type 1} → statement M

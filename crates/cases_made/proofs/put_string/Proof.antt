@@ -3,14 +3,14 @@ use Rattle.std.proofs.Common.{◌≡◌, ◌-◌, length, rules}
 use Rattle.cases_made.proofs.put_string.Statement.{statement}
 use Rattle.cases_made.proofs.put_string.Tie as tie
 
-abbrev invariant-loop : tie.invariant-loop
+abbrev invariant-loop : tie.invariant-loop-i
 invariant-loop cache₀ at string i₀ cache i = length cache ≡ length cache₀
 
-abbrev decreases-loop : tie.decreases-loop
+abbrev decreases-loop : tie.decreases-loop-i
 decreases-loop cache₀ at string i₀ cache i = length string - i
 
-pub put-string-spec : {M : Type 1} → statement M
-put-string-spec =
+pub put_string_spec : {M : Type 1} → statement M
+put_string_spec =
     tie.close
     (tie.spec
     invariant-loop

@@ -1,12 +1,13 @@
 -- The bytes from one place up to another: joined with those that follow, and those of a number and
 -- of a text that were read there.
-use Prim.Native.Nat.{ℕ, zero, suc, ◌+◌, ◌^◌, ◌≤◌, ◌<◌}
-use Rattle.std.specs.Prelude.{◌≡◌, refl, List, [], ◌++◌, length, take, drop}
-use Rattle.std.proofs.Common.{sym, ap, ◌∙◌, append_assoc, pow-suc, take-append-drop, length-append, length-drop, drop-drop, take_at, length-take-le}
+use Prim.Native.Nat.{ℕ, zero, suc, ◌+◌, ◌*◌, ◌/◌, ◌%◌, ◌^◌, ◌≤◌, ◌<◌}
+use Rattle.std.specs.Prelude.{◌≡◌, List, [], ◌∷◌, ◌++◌, length, take, drop}
+use Rattle.std.proofs.Math.Path.{refl, ap}
+use Rattle.std.proofs.Common.{sym, ◌∙◌, append_assoc, pow-suc, take-append-drop, length-append, drop-drop, take_at, take-suc, get_or-drop, length-take-le}
 use native.Mathlib.Omega.{arith}
+use Rattle.std.proofs.Math.ListN.{get_or, length-drop}
 use Rattle.format.specs.Number.{be}
 use Rattle.format.specs.Bytes.{bytes}
-use Rattle.format.specs.Laws.Bytes.{bytes_read}
 use Rattle.catalogue.specs.Fields.{AreBytes, part}
 
 -- xs are the bytes of c from p up to e
@@ -42,5 +43,15 @@ module _ (c : List ℕ) (small : AreBytes c) where
   number_fits (suc w) p h =
       rw (pow-suc 256 w) (omega (arith, number_fits w p (omega arith), small (p + w)))
 
+  number-bytes : (w p : ℕ) → p + w ≤ length c → bytes w (be w c p) ≡ part c p w
+  unfolding be bytes
+  number-bytes zero p h = refl
+  number-bytes (suc w) p h =
+      let low : get_or c (p + w) 0 < 256 = small (p + w) in
+      let high_part : (be w c p * 256 + get_or c (p + w) 0) / 256 ≡ be w c p = omega arith in
+      let low_part : (be w c p * 256 + get_or c (p + w) 0) % 256 ≡ get_or c (p + w) 0 = omega arith in
+      rw (high_part, low_part, number-bytes w p (omega arith))
+      (sym (take-suc (drop p c) w 0 (omega (arith, length-drop p c)) ∙ ap (λ x. part c p w ++ (x ∷ [])) (get_or-drop p c w 0)))
+
   pub spans-number : (w p : ℕ) → p + w ≤ length c → Spans c p (bytes w (be w c p)) (p + w)
-  spans-number w p h = rw (bytes_read w c p small h) (spans-part c p w)
+  spans-number w p h = rw (number-bytes w p h) (spans-part c p w)

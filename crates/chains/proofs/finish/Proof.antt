@@ -14,31 +14,31 @@ use Rattle.chains.proofs.Back.{turned-keeps, turned-inside, turned-last}
 use Rattle.chains.proofs.finish.Statement.{statement}
 use Rattle.chains.proofs.finish.Tie as tie
 
-returns : tie.Need-returns
-returns c k j = walked-over _ _ _ j.walk j.few c.match.keys2
+returns : tie.Need-returns-in_default
+returns c k j = walked-over _ _ _ j.walk j.few c.in-Record.keys2
 
 -- a record comes next
-goes : (c : tie.After-known-told) (k : ℕ)
+goes : (c : tie.In-Record) (k : ℕ)
     → let a = c.before.before.before.before.args in
-    (j : Judged a.cache.now k a.most a.chain) → Goes a.cache.now k j.stop c.before.after.given.0.0 a.chain
-goes c k j = walked-goes _ _ _ j.walk c.before.after.given.1
+    (j : Judged a.cache.now k a.most a.chain) → Goes a.cache.now k j.stop c.before.after-1.given.0.0 a.chain
+goes c k j = walked-goes _ _ _ j.walk c.before.after-1.given.1
 
-go-round-requires : tie.Need-go-round-requires
+go-round-requires : tie.Need-go_round-requires
 go-round-requires c κs =
     let start = c.before.before.before.before in
     let (k, j) = start.requires.1 in
     let g = goes c k j in
     let stands = stands_on g.keeps g.at g.opened in
-    let steps = turned-inside (j.back _ c.before.after.given.1) stands g.opened j.few in
+    let steps = turned-inside (j.back _ c.before.after-1.given.1) stands g.opened j.few in
     ((omega (arith, g.opened, j.few), start.requires.0.0, start.requires.0.1), steps)
 
-returns-2 : tie.Need-returns-2
+returns-2 : tie.Need-returns
 returns-2 c k j =
     let told = c.before in
     let g = goes told k j in
-    let back = j.back _ told.before.after.given.1 in
+    let back = j.back _ told.before.after-1.given.1 in
     let stands = stands_on g.keeps g.at g.opened in
-    c.go-round.ensures
+    c.go_round.ensures
     ∙ ap (stepped_to _) (turned-last back stands g.opened j.few)
     ∙ walked-is _ _ _ (keeps-chain Short _ _ (turned-keeps back stands g.opened))
 

@@ -4,8 +4,8 @@ use borrow.Author.Tests.{ne_eqb}
 use Rattle.chains.proofs.opens.Statement.{statement}
 use Rattle.chains.proofs.opens.Tie as tie
 
-pub opens-spec : {M : Type 1} → statement M
-opens-spec =
+pub opens_spec : {M : Type 1} → statement M
+opens_spec =
     tie.close
     (tie.spec
     (λ c. search rules)
@@ -13,5 +13,5 @@ opens-spec =
     (λ c. search rules)
     (λ c. search rules)
     (λ c. search rules)
-    (λ c. rw (c.before.before.next.given.1, ne_eqb _ _ c.if1.false))
+    (λ c. rw (c.before.before.next-1.given.1, ne_eqb _ _ c.if-number-eq7.false))
     (λ c. search rules))

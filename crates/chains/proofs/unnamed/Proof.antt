@@ -3,13 +3,13 @@ use borrow.Author.Rules.{rules}
 use Rattle.chains.proofs.unnamed.Statement.{statement}
 use Rattle.chains.proofs.unnamed.Tie as tie
 
-pub unnamed-spec : {M : Type 1} → statement M
-unnamed-spec =
+pub unnamed_spec : {M : Type 1} → statement M
+unnamed_spec =
     tie.close
     (tie.spec
     (λ c. search rules)
     (λ c. search rules)
     (λ c. search rules)
-    (λ c. rw c.enum_told.given.1)
-    (λ c. rw c.before.next.given.1)
-    (λ c. rw c.enum-told2.given.1))
+    (λ c. rw c.enum_told-1.given.1)
+    (λ c. rw c.before.next-1.given.1)
+    (λ c. rw c.enum_told-in-Record-1.given.1))

@@ -16,46 +16,46 @@ use Rattle.checking.specs.Buckets.{unnamed_on}
 use Rattle.checking.proofs.check_chain.Statement.{statement}
 use Rattle.checking.proofs.check_chain.Tie as tie
 
-check-long-requires : tie.Need-check-long-requires
+check-long-requires : tie.Need-check_long-requires
 check-long-requires c κs =
     let w = c.before.before in
     let pre = w.before.before.before.requires in
-    let keeps = (walked-goes _ _ _ w.walk.ensures c.enum_told.given.1).keeps in
-    let few = w.before.at_first.ensures in
+    let keeps = (walked-goes _ _ _ w.walk-chain.ensures c.enum_told-1.given.1).keeps in
+    let few = w.before.at_first-stop.ensures in
     (pre.0, ((pre.1.0, omega (arith, few), omega (arith, few, pre.1.1)), λ m g. keeps m (omega arith)))
 
-abbrev whole : tie.After-walk → Chain
+abbrev whole : tie.After-walk-chain → Chain
 whole w = let a = w.before.before.before.args in chain_of Short a.cache.now a.bucket a.most
 
 -- what a search says of a chain that is walked to where it ends or breaks
 on-whole : (c : Chain) {a : Walked} {l : Next} (f : ℕ) → a ≡ walked c → a.after ≡ l → unnamed f l a.opened ≡ unnamed_on f c
 on-whole c {a} f e q = ap (λ l. unnamed f l a.opened) (sym q) ∙ ap (λ (a : Walked). unnamed f a.after a.opened) e
 
-returns-2 : tie.Need-returns-2
+returns-2 : tie.Need-returns-in-Broken
 returns-2 c =
     let known = c.before.before in
     let w = known.before.before in
-    let broken = known.after.given.1 in
-    c.unfound.ensures ∙ on-whole (whole w) _ (walked-broken _ _ _ w.walk.ensures w.before.at_first.ensures broken) broken
+    let broken = known.after-1.given.1 in
+    c.unfound.ensures ∙ on-whole (whole w) _ (walked-broken _ _ _ w.walk-chain.ensures w.before.at_first-stop.ensures broken) broken
 
-returns-3 : tie.Need-returns-3
+returns-3 : tie.Need-returns-in-End
 returns-3 c =
     let w = c.before.before.before in
-    let ended = c.before.enum-told2.given.1 in
-    c.unfound2.ensures ∙ on-whole (whole w) _ (walked-ended _ _ _ w.walk.ensures w.before.at_first.ensures ended) ended
+    let ended = c.before.enum_told-in-End-1.given.1 in
+    c.unfound-in-End.ensures ∙ on-whole (whole w) _ (walked-ended _ _ _ w.walk-chain.ensures w.before.at_first-stop.ensures ended) ended
 
-pub check-chain-spec : {M : Type 1} → statement M
-check-chain-spec =
+pub check_chain_spec : {M : Type 1} → statement M
+check_chain_spec =
     tie.close
     (tie.spec
     (λ c κs. let pre = c.before.requires in omega (arith, pre.1.1, valid-header pre.0))
-    (λ c κs. let pre = c.before.before.requires in (pre.0, (pre.1.0, omega (arith, c.at_first.ensures, pre.1.1))))
-    (λ c. c.match.keys1)
+    (λ c κs. let pre = c.before.before.requires in (pre.0, (pre.1.0, omega (arith, c.at_first-stop.ensures, pre.1.1))))
+    (λ c. c.in-Record.keys1)
     check-long-requires
-    (λ c. c.match.keys2)
+    (λ c. c.in-Record.keys2)
     (λ c κs. search rules)
-    (λ c. c.match.keys3)
+    (λ c. c.in-Record.keys3)
     (λ c κs. search rules)
-    (λ c. c.check-long.ensures)
+    (λ c. c.check_long.ensures)
     returns-2
     returns-3)

@@ -12,20 +12,20 @@ use Rattle.checking.specs.Buckets.{unnamed_on}
 use Rattle.checking.proofs.check_long.Statement.{statement}
 use Rattle.checking.proofs.check_long.Tie as tie
 
-finish-requires : tie.Need-finish-requires
+finish-requires : tie.Need-finish-chain-requires
 finish-requires c κs =
     let start = c.before.before in
-    ((start.requires.1.0.2, omega (arith, valid-header start.requires.0)), (start.args.bucket, c.go_on.ensures))
+    ((start.requires.1.0.2, omega (arith, valid-header start.requires.0)), (start.args.bucket, c.go_on-judged.ensures))
 
 returns : tie.Need-returns
 returns c =
     let walk = c.before.before in
     let start = walk.before.before.before in
-    let field = c.before.bucket-field.result in
+    let field = c.before.bucket_field-field.result in
     c.unnamed.ensures
-    ∙ ap (λ (a : Walked). unnamed field a.after a.opened) (walk.finish.ensures _ walk.before.go_on.ensures)
-    ∙ ap (λ f. unnamed_on f (chain_of Short start.args.cache.now start.args.bucket start.args.most)) (c.before.bucket-field.ensures ∙ same-field start.requires.0 _)
+    ∙ ap (λ (a : Walked). unnamed field a.after a.opened) (walk.finish-chain.ensures _ walk.before.go_on-judged.ensures)
+    ∙ ap (λ f. unnamed_on f (chain_of Short start.args.cache.now start.args.bucket start.args.most)) (c.before.bucket_field-field.ensures ∙ same-field start.requires.0 _)
 
-pub check-long-spec : {M : Type 1} → statement M
-check-long-spec =
+pub check_long_spec : {M : Type 1} → statement M
+check_long_spec =
     tie.close (tie.spec (λ c κs. search rules) finish-requires (λ c κs. search rules) (λ c κs. search rules) returns)

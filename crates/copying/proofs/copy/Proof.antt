@@ -13,10 +13,10 @@ use Rattle.format.specs.Laws.Put.{put-length, put-nothing, put-more}
 use Rattle.copying.proofs.copy.Statement.{statement}
 use Rattle.copying.proofs.copy.Tie as tie
 
-abbrev invariant-loop : tie.invariant-loop
+abbrev invariant-loop : tie.invariant-loop-i
 invariant-loop from start n out₀ at i₀ out i = (i ≤ n) × (length out ≡ length out₀) × (out ≡ put out₀ at (take i (drop start from)))
 
-abbrev decreases-loop : tie.decreases-loop
+abbrev decreases-loop : tie.decreases-loop-i
 decreases-loop from start n out₀ at i₀ out i = n - i
 
 -- one byte more
@@ -35,21 +35,21 @@ more s from p q i {t} there fits before =
     ∙ put-more s p xs (x ∷ []) {q = p + i} (omega arith) (omega arith)
     ∙ ap (put s p) (sym next)
 
-loop-holds : tie.Need-loop-init invariant-loop decreases-loop
+loop-holds : tie.Need-loop-i-init invariant-loop decreases-loop
 loop-holds c = (omega arith, refl, sym (put-nothing _ _))
 
-loop-again : tie.Need-loop-preserved invariant-loop decreases-loop
+loop-again : tie.Need-loop-i-preserved invariant-loop decreases-loop
 loop-again c =
     let l = c.before.before in
     let a = l.before.args in
-    (omega arith, search rules, more a.out.now a.from.now a.at a.start l.loop.i (omega arith) (omega arith) l.loop.invariant.2)
+    (omega arith, search rules, more a.out.now a.from.now a.at a.start l.loop-i.i (omega arith) (omega arith) l.loop-i.invariant.2)
 
 returns : tie.Need-returns invariant-loop decreases-loop
 returns c =
     let l = c.before in
     let a = l.before.args in
-    let all : l.loop.i ≡ a.n = omega arith in
-    l.loop.invariant.2 ∙ rw all
+    let all : l.loop-i.i ≡ a.n = omega arith in
+    l.loop-i.invariant.2 ∙ rw all
 
 pub copy_spec : {M : Type 1} → statement M
 copy_spec =

@@ -18,8 +18,8 @@ returns c =
     let s = a.from.now in
     let size : length (take (8 * a.m) (drop a.start s)) ≡ 8 * a.m = length-take-le _ _ (omega (arith, length-drop a.start s)) in
     let counted : a.at + length (bytes 4 a.m) ≡ a.at + 4 = ap (λ n. a.at + n) (bytes-length 4 a.m) in
-    put_then a.out.now a.at (bytes 4 a.m) (take (8 * a.m) (drop a.start s)) counted (omega arith) c.before.before.before.before.before.before.put-u32.ensures c.before.before.copy.ensures
+    put_then a.out.now a.at (bytes 4 a.m) (take (8 * a.m) (drop a.start s)) counted (omega arith) c.before.before.before.before.before.before.put_u32.ensures c.before.before.copy.ensures
 
-pub put-images-spec : {M : Type 1} → statement M
-put-images-spec =
+pub put_images_spec : {M : Type 1} → statement M
+put_images_spec =
     tie.close (tie.spec (λ c κs. search rules) (λ c. search rules) (λ c. search rules) (λ c κs. search rules) (λ c. search rules) returns)

@@ -21,6 +21,6 @@ returns c =
     let size : length text ≡ a.n = length-take-le _ _ (omega (arith, length-drop a.start s)) in
     put_then a.out.now a.at text (0 ∷ []) {q = a.at + a.n} (omega arith) (omega arith) copied.copy.ensures c.before.before.put_byte.ensures
 
-pub put-string-spec : {M : Type 1} → statement M
-put-string-spec =
+pub put_string_spec : {M : Type 1} → statement M
+put_string_spec =
     tie.close (tie.spec (λ c κs. search rules) (λ c. search rules) (λ c κs. search rules) (λ c. search rules) returns)

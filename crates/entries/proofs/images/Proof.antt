@@ -17,54 +17,54 @@ use Rattle.entries.specs.declared.Judged.{Judged}
 use Rattle.entries.proofs.images.Statement.{statement}
 use Rattle.entries.proofs.images.Tie as tie
 
-abbrev invariant-loop : tie.invariant-loop
+abbrev invariant-loop : tie.invariant-loop-left
 invariant-loop catalogue n m at left₀ here₀ left here =
     (here ≤ length catalogue) × (row_judged (image_field_fault n catalogue) image_end left here ≡ row_judged (image_field_fault n catalogue) image_end m at)
 
-abbrev decreases-loop : tie.decreases-loop
+abbrev decreases-loop : tie.decreases-loop-left
 decreases-loop catalogue n m at left₀ here₀ left here = left
 
-loop-holds : tie.Need-loop-init invariant-loop decreases-loop
+loop-holds : tie.Need-loop-left-init invariant-loop decreases-loop
 loop-holds c = (c.before.requires, refl)
 
-returns : tie.Need-returns invariant-loop decreases-loop
+returns : tie.Need-returns-then-not-valid_image invariant-loop decreases-loop
 returns c =
     let judge = c.before.before in
     let l = judge.before.before in
     let a = l.before.before.args in
-    let wrong = sym judge.valid-image.ensures ∙ not-true _ c.before.if1.true in
-    let told = refuses (image_end l.loop.here) (unless-broken _ 18 l.loop.here wrong) c.refused.ensures in
-    judged-stops (image_field_fault a.n a.catalogue.now) image_end l.loop.left l.loop.here (image_end l.loop.here) judge.before.loop-test.true told
+    let wrong = sym judge.valid_image.ensures ∙ not-true _ c.before.if-not-valid_image.true in
+    let told = refuses (image_end l.loop-left.here) (unless-broken _ 18 l.loop-left.here wrong) c.refused.ensures in
+    judged-stops (image_field_fault a.n a.catalogue.now) image_end l.loop-left.left l.loop-left.here (image_end l.loop-left.here) judge.before.loop-left-test.true told
     (λ z. omega (arith, ap (λ (a : Judged). a.fault.number) c.refused.ensures))
-    ∙ l.loop.invariant.1
+    ∙ l.loop-left.invariant.1
 
 -- an image that is allowed
-module _ (c : tie.Else1 invariant-loop decreases-loop) where
-  abbrev turn : tie.At-loop invariant-loop decreases-loop
+module _ (c : tie.Else-not-valid_image invariant-loop decreases-loop) where
+  abbrev turn : tie.At-loop-left invariant-loop decreases-loop
   turn = c.before.before.before
 
-  valid : let a = turn.before.before.args in valid_image_field a.n a.catalogue.now turn.loop.here ≡ true
-  valid = sym c.before.valid-image.ensures ∙ not-false _ c.if1.false
+  valid : let a = turn.before.before.args in valid_image_field a.n a.catalogue.now turn.loop-left.here ≡ true
+  valid = sym c.before.valid_image.ensures ∙ not-false _ c.if-not-valid_image.false
 
-  there : turn.loop.here + 8 ≤ length turn.before.before.args.catalogue.now
+  there : turn.loop-left.here + 8 ≤ length turn.before.before.args.catalogue.now
   there = leb-true _ _ ((and-eq-true_iff _ _).0 valid).0
 
   told : let a = turn.before.before.args in
-      judged no_fault (turn.loop.here + 8) ≡ judged (image_field_fault a.n a.catalogue.now turn.loop.here) (image_end turn.loop.here)
+      judged no_fault (turn.loop-left.here + 8) ≡ judged (image_field_fault a.n a.catalogue.now turn.loop-left.here) (image_end turn.loop-left.here)
   told = rw valid
 
-loop-again : tie.Need-loop-preserved invariant-loop decreases-loop
+loop-again : tie.Need-loop-left-preserved invariant-loop decreases-loop
 loop-again c =
-    let l = (turn c).loop in
+    let l = (turn c).loop-left in
     let a = (turn c).before.before.args in
-    let more : l.left ≡ l.left - 1 + 1 = omega (arith, c.before.before.loop-test) in
+    let more : l.left ≡ l.left - 1 + 1 = omega (arith, c.before.before.loop-left-test) in
     (there c, judged-goes-on (image_field_fault a.n a.catalogue.now) image_end l.left l.here (told c) refl (l.left - 1) more ∙ l.inv.1)
 
-returns-2 : tie.Need-returns-2 invariant-loop decreases-loop
-returns-2 c = let l = c.before.before.loop in judged-done _ _ _ _ (omega arith) c.kept.ensures ∙ l.invariant.1
+returns-2 : tie.Need-returns invariant-loop decreases-loop
+returns-2 c = let l = c.before.before.loop-left in judged-done _ _ _ _ (omega arith) c.kept.ensures ∙ l.invariant.1
 
-pub images-spec : {M : Type 1} → statement M
-images-spec =
+pub images_spec : {M : Type 1} → statement M
+images_spec =
     tie.close
     (tie.spec
     invariant-loop

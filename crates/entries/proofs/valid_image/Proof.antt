@@ -11,31 +11,31 @@ use Rattle.format.specs.Record.{valid_index}
 use Rattle.entries.proofs.valid_image.Statement.{statement}
 use Rattle.entries.proofs.valid_image.Tie as tie
 
-returns : tie.Need-returns
+returns : tie.Need-returns-then-catalogue-at-lt8
 returns c =
     let a = c.before.before.args in
     let cut : length a.catalogue.now < a.at + 8 = omega arith in
     rw (lt-leb _ _ cut)
 
 -- it is there, and its index is judged
-there : (c : tie.After-valid-index) → let a = c.before.before.before.before.before.args in a.at + 8 ≤ length a.catalogue.now
+there : (c : tie.After-valid_index) → let a = c.before.before.before.before.before.args in a.at + 8 ≤ length a.catalogue.now
 there c = omega arith
 
-index : (c : tie.After-valid-index) → let a = c.before.before.before.before.before.args in c.valid-index.result ≡ valid_index a.n (be 2 a.catalogue.now a.at)
-index c = c.valid-index.ensures ∙ ap (valid_index c.before.before.before.before.before.args.n) c.before.before.u16-at.ensures
+index : (c : tie.After-valid_index) → let a = c.before.before.before.before.before.args in c.valid_index.result ≡ valid_index a.n (be 2 a.catalogue.now a.at)
+index c = c.valid_index.ensures ∙ ap (valid_index c.before.before.before.before.before.args.n) c.before.before.u16_at-index.ensures
 
-returns-2 : tie.Need-returns-2
+returns-2 : tie.Need-returns-then-valid_index
 returns-2 c =
-    let valid = sym (index c.before) ∙ c.if2.true in
-    rw (le-leb _ _ (there c.before), valid) (ap (λ n. leb n 15) c.before.before.u16-at2.ensures)
+    let valid = sym (index c.before) ∙ c.if-valid_index.true in
+    rw (le-leb _ _ (there c.before), valid) (ap (λ n. leb n 15) c.before.before.u16_at-flags.ensures)
 
-returns-3 : tie.Need-returns-3
+returns-3 : tie.Need-returns-else-valid_index
 returns-3 c =
-    let wrong = sym (index c.before) ∙ c.if2.false in
-    rw (le-leb _ _ (there c.before), wrong) c.if2.false
+    let wrong = sym (index c.before) ∙ c.if-valid_index.false in
+    rw (le-leb _ _ (there c.before), wrong) c.if-valid_index.false
 
-pub valid-image-spec : {M : Type 1} → statement M
-valid-image-spec =
+pub valid_image_spec : {M : Type 1} → statement M
+valid_image_spec =
     tie.close
     (tie.spec
     (λ c. search rules)

@@ -8,18 +8,18 @@ use lib.ListN.{length}
 use Rattle.entries.proofs.valid_name_length.Statement.{statement}
 use Rattle.entries.proofs.valid_name_length.Tie as tie
 
-returns : tie.Need-returns
+returns : tie.Need-returns-then-catalogue-at
 returns c =
     let a = c.before.before.args in
-    let cut : length a.catalogue.now < a.at + 1 = omega (arith, c.if1.true) in
+    let cut : length a.catalogue.now < a.at + 1 = omega (arith, c.if-catalogue-at.true) in
     rw (lt-leb _ _ cut)
 
-returns-2 : tie.Need-returns-2
+returns-2 : tie.Need-returns
 returns-2 c =
     let start = c.before.before.before in
     let a = start.args in
-    let there : a.at + 1 ≤ length a.catalogue.now = omega (arith, c.before.if1.false, start.requires) in
+    let there : a.at + 1 ≤ length a.catalogue.now = omega (arith, c.before.if-catalogue-at.false, start.requires) in
     rw (le-leb _ _ there) (ap (λ n. ltb 0 n) c.byte.ensures.0)
 
-pub valid-name-length-spec : {M : Type 1} → statement M
-valid-name-length-spec = tie.close (tie.spec returns (λ c κs. omega arith) returns-2)
+pub valid_name_length_spec : {M : Type 1} → statement M
+valid_name_length_spec = tie.close (tie.spec returns (λ c κs. omega arith) returns-2)

@@ -13,25 +13,25 @@ use Rattle.export.specs.Laws.Call.{check-refuses}
 use Rattle.export.proofs.catalogue_of.Statement.{statement}
 use Rattle.export.proofs.catalogue_of.Tie as tie
 
-returns : tie.Need-returns
+returns : tie.Need-returns-then-check-ne0
 returns c =
     let checked = c.before.before.before in
-    let told = check-refuses _ _ checked.check-short.ensures.0 c.before.if1.true in
+    let told = check-refuses _ _ checked.check_short-check.ensures.0 c.before.if-check-ne0.true in
     (c.refusal.ensures ∙ told.0, told.1)
 
-accepted : (c : tie.Else1) → Accepted Short c.before.before.before.before.before.args.cache.now
-accepted c = c.before.before.check-short.ensures.1.0.accepted.0 c.if1.false
+accepted : (c : tie.Else-check-ne0) → Accepted Short c.before.before.before.before.before.args.cache.now
+accepted c = c.before.before.check_short-check.ensures.1.0.accepted.0 c.if-check-ne0.false
 
 list-requires : tie.Need-list-requires
 list-requires c κs =
     let read = c.before.before in
     let kept = read.before in
     let checked = kept.before.before in
-    let icons = ap (λ (a : CheckAnswer). a.icons) checked.check-short.ensures.0 ∙ sym ((pages checked.before.before.before.args.cache.now).as_many (accepted kept)) in
-    (record { tables = read.read.ensures; accepted = accepted kept }, icons, omega (arith, length-replicate {A = ℕ} 65536 0))
+    let icons = ap (λ (a : CheckAnswer). a.icons) checked.check_short-check.ensures.0 ∙ sym ((pages checked.before.before.before.args.cache.now).as_many (accepted kept)) in
+    (record { tables = read.read-t.ensures; accepted = accepted kept }, icons, omega (arith, length-replicate {A = ℕ} 65536 0))
 
-pub catalogue-of-spec : {M : Type 1} → statement M
-catalogue-of-spec =
+pub catalogue_of_spec : {M : Type 1} → statement M
+catalogue_of_spec =
     tie.close
     (tie.spec
     (λ c κs. search rules)

@@ -15,68 +15,68 @@ use Rattle.export.specs.Laws.Call.{sound-checked, name-refuses, many-refused, sh
 use Rattle.export.proofs.list.Statement.{statement}
 use Rattle.export.proofs.list.Tie as tie
 
-abbrev start : tie.After-in-cache → tie.Start
+abbrev start : tie.After-in_cache-fault → tie.Start
 start c = c.before.before.before.before.before
 
-returns : tie.Need-returns
+returns : tie.Need-returns-then-fault-ne0
 returns c =
     let asked = c.before.before.before.before.before in
-    let told = name-refuses _ _ (sound-checked (start asked).requires.0) asked.in-cache.ensures c.before.if1.true in
+    let told = name-refuses _ _ (sound-checked (start asked).requires.0) asked.in_cache-fault.ensures c.before.if-fault-ne0.true in
     (c.refusal.ensures ∙ told.0, told.1)
 
 -- no name stands twice
-abbrev asked : tie.Else1 → tie.After-in-cache
+abbrev asked : tie.Else-fault-ne0 → tie.After-in_cache-fault
 asked c = c.before.before.before.before
 
-apart : (c : tie.Else1) → (repeat_fault [] (record_uses (start (asked c)).args.cache.now)).number ≡ 0
-apart c = sym (same_number (asked c).in-cache.ensures) ∙ c.if1.false
+apart : (c : tie.Else-fault-ne0) → (repeat_fault [] (record_uses (start (asked c)).args.cache.now)).number ≡ 0
+apart c = sym (same_number (asked c).in_cache-fault.ensures) ∙ c.if-fault-ne0.false
 
-returns-2 : tie.Need-returns-2
+returns-2 : tie.Need-returns-then-icons-gt65535
 returns-2 c =
     let once = c.before.before in
     let begin = start (asked once) in
     let told = many-refused _ _ (sound-checked begin.pre.0) (apart once) (omega (arith, begin.pre.1)) in
-    (c.refusal2.ensures ∙ told.0, told.1)
+    (c.refusal-then-icons-gt65535.ensures ∙ told.0, told.1)
 
 -- nor are there too many
-module _ (c : tie.Else2) where
+module _ (c : tie.Else-icons-gt65535) where
   abbrev begin : tie.Start
   begin = start (asked c.before)
 
   few : length (all_records Short begin.args.cache.now) ≤ 65535
   few = omega (arith, begin.pre.1)
 
-whole-requires : tie.Need-whole-requires
+whole-requires : tie.Need-whole-size-requires
 whole-requires c κs =
     let made = c.before.before.before in
     let few-enough = made.before.before in
-    indexed (begin few-enough).requires.0 made.records.ensures (few few-enough) (omega (arith, (begin few-enough).requires.2))
+    indexed (begin few-enough).requires.0 made.records-n.ensures (few few-enough) (omega (arith, (begin few-enough).requires.2))
 
-returns-3 : tie.Need-returns-3
+returns-3 : tie.Need-returns-then-catalogue-size
 returns-3 c =
     let sized = c.before.before in
     let few-enough = sized.before.before.before.before.before.before in
     let start = begin few-enough in
-    let told = short-refused _ start.args.catalogue.now (sound-checked start.pre.0) (apart few-enough.before) (few few-enough) (omega (arith, sized.whole.ensures)) in
-    (c.refusal3.ensures ∙ told.0, told.1)
+    let told = short-refused _ start.args.catalogue.now (sound-checked start.pre.0) (apart few-enough.before) (few few-enough) (omega (arith, sized.whole-size.ensures)) in
+    (c.refusal-then-catalogue-size.ensures ∙ told.0, told.1)
 
-whole-requires-2 : tie.Need-whole-requires-2
+whole-requires-2 : tie.Need-whole-requires
 whole-requires-2 c κs =
     let sized = c.before.before.before in
     let made = sized.before.before.before.before in
     let few-enough = made.before.before in
-    (indexed (begin few-enough).requires.0 made.records.ensures (few few-enough) (omega (arith, (begin few-enough).requires.2)), omega (arith, sized.whole.ensures))
+    (indexed (begin few-enough).requires.0 made.records-n.ensures (few few-enough) (omega (arith, (begin few-enough).requires.2)), omega (arith, sized.whole-size.ensures))
 
-returns-4 : tie.Need-returns-4
+returns-4 : tie.Need-returns
 returns-4 c =
     let written = c.before.before in
     let sized = written.before.before.before.before in
     let few-enough = sized.before.before.before.before.before.before in
     let start = begin few-enough in
-    listed-whole _ start.args.catalogue.now (sound-checked start.pre.0) (apart few-enough.before) (few few-enough) (omega (arith, sized.whole.ensures)) sized.whole.ensures written.whole2.ensures
+    listed-whole _ start.args.catalogue.now (sound-checked start.pre.0) (apart few-enough.before) (few few-enough) (omega (arith, sized.whole-size.ensures)) sized.whole-size.ensures written.whole.ensures
 
-pub list-spec : {M : Type 1} → statement M
-list-spec =
+pub list_spec : {M : Type 1} → statement M
+list_spec =
     tie.close
     (tie.spec
     (λ c κs. let start = c.before.before.before.before in (start.requires.0, omega (arith, start.requires.2)))

@@ -7,11 +7,11 @@ use Rattle.filling.specs.Laws.{puts_whole, puts-short}
 use Rattle.filling.proofs.byte.Statement.{statement}
 use Rattle.filling.proofs.byte.Tie as tie
 
-returns : tie.Need-returns
+returns : tie.Need-returns-then-at-out
 returns c = puts_whole (bytes-length 1 _) refl (omega arith) c.before.before.put_byte.ensures
 
-returns-2 : tie.Need-returns-2
+returns-2 : tie.Need-returns
 returns-2 c = puts-short (bytes-length 1 _) refl (omega arith) refl
 
-pub byte-spec : {M : Type 1} → statement M
-byte-spec = tie.close (tie.spec (λ c κs. search rules) (λ c. search rules) (λ c. search rules) returns (λ c. search rules) returns-2)
+pub byte_spec : {M : Type 1} → statement M
+byte_spec = tie.close (tie.spec (λ c κs. search rules) (λ c. search rules) (λ c. search rules) returns (λ c. search rules) returns-2)

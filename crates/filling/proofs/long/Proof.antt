@@ -7,11 +7,11 @@ use Rattle.filling.specs.Laws.{puts_whole, puts-short}
 use Rattle.filling.proofs.long.Statement.{statement}
 use Rattle.filling.proofs.long.Tie as tie
 
-returns : tie.Need-returns
-returns c = puts_whole (bytes-length 4 _) refl (omega arith) c.before.before.put-u32.ensures
+returns : tie.Need-returns-then-at-out
+returns c = puts_whole (bytes-length 4 _) refl (omega arith) c.before.before.put_u32.ensures
 
-returns-2 : tie.Need-returns-2
+returns-2 : tie.Need-returns
 returns-2 c = puts-short (bytes-length 4 _) refl (omega arith) refl
 
-pub long-spec : {M : Type 1} → statement M
-long-spec = tie.close (tie.spec (λ c. search rules) (λ c κs. search rules) (λ c. search rules) (λ c. search rules) returns (λ c. search rules) returns-2)
+pub long_spec : {M : Type 1} → statement M
+long_spec = tie.close (tie.spec (λ c. search rules) (λ c κs. search rules) (λ c. search rules) (λ c. search rules) returns (λ c. search rules) returns-2)

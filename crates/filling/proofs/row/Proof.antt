@@ -16,17 +16,17 @@ stored : (s : List ℕ) (p a b : ℕ) → p + 2 ≤ length s → set (set s p a)
 unfolding put
 stored s p a b fits = rw add-one (sets-eq (a ∷ b ∷ []) s p fits)
 
-returns : tie.Need-returns
+returns : tie.Need-returns-then-at-report
 returns c = puts_whole refl refl (omega arith) (stored c.before.args.report.now c.before.args.at c.before.args.number c.before.args.place (omega arith))
 
-returns-2 : tie.Need-returns-2
+returns-2 : tie.Need-returns
 returns-2 c = puts-short refl refl (omega arith) refl
 
-slice-write-report-2 : tie.Need-slice-write-report-2
+slice-write-report-2 : tie.Need-bounds-report-at-then-at-report
 slice-write-report-2 c = simp length-set (omega arith)
 
-pub row-spec : {M : Type 1} → statement M
-row-spec =
+pub row_spec : {M : Type 1} → statement M
+row_spec =
     tie.close
     (tie.spec
     (λ c. search rules)

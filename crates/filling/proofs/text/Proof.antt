@@ -13,11 +13,11 @@ size c =
     let a = c.args in
     length-take-le a.n (drop a.start a.from.now) (omega (arith, length-drop a.start a.from.now, c.requires.0))
 
-returns : tie.Need-returns
+returns : tie.Need-returns-then-at-n
 returns c = puts_whole (size c.before.before.before.before.before.before.before) refl (omega arith) c.before.before.copy.ensures
 
-returns-2 : tie.Need-returns-2
+returns-2 : tie.Need-returns
 returns-2 c = puts-short (size c.before.before.before) refl (omega arith) refl
 
-pub text-spec : {M : Type 1} → statement M
-text-spec = tie.close (tie.spec (λ c. search rules) (λ c κs. search rules) (λ c. search rules) (λ c. search rules) returns (λ c. search rules) returns-2)
+pub text_spec : {M : Type 1} → statement M
+text_spec = tie.close (tie.spec (λ c. search rules) (λ c κs. search rules) (λ c. search rules) (λ c. search rules) returns (λ c. search rules) returns-2)

@@ -19,5 +19,5 @@ returns : tie.Need-returns
 unfolding result renumbered
 returns c = agree 16 result (renumbered gtk freedesktop) refl c.args.flags (omega arith)
 
-pub from-gtk-spec : {M : Type 1} → statement M
-from-gtk-spec = tie.close (tie.spec returns)
+pub from_gtk_spec : {M : Type 1} → statement M
+from_gtk_spec = tie.close (tie.spec returns)

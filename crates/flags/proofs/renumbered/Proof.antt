@@ -7,20 +7,20 @@ use Rattle.flags.specs.Laws.{same-numbering}
 use Rattle.flags.proofs.renumbered.Statement.{statement}
 use Rattle.flags.proofs.renumbered.Tie as tie
 
-returns : tie.Need-returns
-returns c = rw c.if1.true (sym (same-numbering _ _ c.before.requires.0))
+returns : tie.Need-returns-then-from-to
+returns c = rw c.if-from-to.true (sym (same-numbering _ _ c.before.requires.0))
 
-returns-2 : tie.Need-returns-2
+returns-2 : tie.Need-returns-then-from-eq0
 returns-2 c =
     let to : c.before.before.before.args.to ≡ 1 = omega arith in
-    rw (c.before.if2.true, to) c.to-gtk.ensures
+    rw (c.before.if-from-eq0.true, to) c.to_gtk.ensures
 
-returns-3 : tie.Need-returns-3
+returns-3 : tie.Need-returns-else-from-eq0
 returns-3 c =
     let a = c.before.before.before.args in
     let from : a.from ≡ 1 = omega arith in
     let to : a.to ≡ 0 = omega arith in
-    rw (from, to) c.from-gtk.ensures
+    rw (from, to) c.from_gtk.ensures
 
-pub renumbered-spec : {M : Type 1} → statement M
-renumbered-spec = tie.close (tie.spec (λ c κs. search rules) (λ c κs. search rules) returns returns-2 returns-3)
+pub renumbered_spec : {M : Type 1} → statement M
+renumbered_spec = tie.close (tie.spec (λ c κs. search rules) (λ c κs. search rules) returns returns-2 returns-3)

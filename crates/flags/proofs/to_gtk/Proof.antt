@@ -19,5 +19,5 @@ returns : tie.Need-returns
 unfolding result renumbered
 returns c = agree 16 result (renumbered freedesktop gtk) refl c.args.flags (omega arith)
 
-pub to-gtk-spec : {M : Type 1} → statement M
-to-gtk-spec = tie.close (tie.spec returns)
+pub to_gtk_spec : {M : Type 1} → statement M
+to_gtk_spec = tie.close (tie.spec returns)

@@ -10,16 +10,16 @@ use Rattle.flags.specs.Flags.{known}
 use Rattle.flags.proofs.valid.Statement.{statement}
 use Rattle.flags.proofs.valid.Tie as tie
 
-first_two : (c : tie.Joined1) → let a = c.before.args in c.if1.if2 ≡ (leb a.flags 15 && known a.from)
+first_two : (c : tie.Joined-flags-le15) → let a = c.before.args in c.if-flags-le15.if2 ≡ (leb a.flags 15 && known a.from)
 first_two c =
     let x = c.before.args.flags in
-    ⊎_elim (λ w. w.1 ∙ rw (le-leb x 15 (omega arith))) (λ w. w.1 ∙ rw (lt-leb x 15 (omega arith))) c.if1.branch
+    ⊎_elim (λ w. w.1 ∙ rw (le-leb x 15 (omega arith))) (λ w. w.1 ∙ rw (lt-leb x 15 (omega arith))) c.if-flags-le15.branch
 
-returns : tie.Need-returns
-returns c = rw (sym (first_two c.before) ∙ c.if2.true)
+returns : tie.Need-returns-then-from-le1
+returns c = rw (sym (first_two c.before) ∙ c.if-from-le1.true)
 
-returns-2 : tie.Need-returns-2
-returns-2 c = c.if2.false ∙ rw (sym (first_two c.before) ∙ c.if2.false)
+returns-2 : tie.Need-returns-else-from-le1
+returns-2 c = c.if-from-le1.false ∙ rw (sym (first_two c.before) ∙ c.if-from-le1.false)
 
-pub valid-spec : {M : Type 1} → statement M
-valid-spec = tie.close (tie.spec returns returns-2)
+pub valid_spec : {M : Type 1} → statement M
+valid_spec = tie.close (tie.spec returns returns-2)

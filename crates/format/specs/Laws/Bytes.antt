@@ -1,7 +1,7 @@
--- The bytes of a number: they are read as it, and are those that it was read from, and are made of
--- those of narrower ones. And how long parts are together.
-use Rattle.std.specs.Prelude.{ℕ, zero, suc, ◌+◌, ◌*◌, ◌/◌, ◌%◌, ◌^◌, ◌≤◌, ◌<◌, ◌≡◌, refl, length, take, drop, get_or}
-use Rattle.std.proofs.Common.{sym, ap, ◌∙◌, zero-add, add-zero, add-suc, mul-zero, mul-one, mul-suc, mul_assoc, pow-suc, div-add-mod', div-lt_iff_lt-mul, arith, lit≤, length-append, length-drop, take-suc, get_or-drop}
+-- The bytes of a number: they are read as it, and made of those of narrower ones. And how long parts
+-- are together.
+use Rattle.std.specs.Prelude.{ℕ, zero, suc, ◌+◌, ◌*◌, ◌/◌, ◌%◌, ◌^◌, ◌<◌, ◌≡◌, refl, length}
+use Rattle.std.proofs.Common.{sym, ◌∙◌, zero-add, add-zero, add-suc, mul-zero, mul-one, mul-suc, mul_assoc, pow-suc, div-add-mod', div-lt_iff_lt-mul, arith, lit≤, length-append}
 use mathlib.Core.List.{List, [], ◌∷◌, ◌++◌, append_assoc, append-nil, flat_map}
 use Rattle.std.proofs.Math.Nat.{mul-add-div_right, mul-add-mod_self_right}
 use Rattle.std.proofs.lemmas.List.{get_or_at}
@@ -24,22 +24,6 @@ be-bytes (suc w) n rest l =
     let high = be-bytes w (n / 256) (n % 256 ∷ rest) (high_fits w n l) in
     let low = get_or_at (bytes w (n / 256)) (n % 256) rest 0 w (bytes-length w (n / 256)) in
     rw (append_assoc, zero-add, high, low) (div-add-mod' n 256)
-
--- a number that is read has the bytes that it was read from
-pub bytes_read : (w : ℕ) (s : List ℕ) (p : ℕ) → ((i : ℕ) → get_or s i 0 < 256) → p + w ≤ length s → bytes w (be w s p) ≡ take w (drop p s)
-unfolding be bytes
-bytes_read zero s p small h = refl
-bytes_read (suc w) s p small h =
-    let low : get_or s (p + w) 0 < 256 = small (p + w) in
-    let high_part : (be w s p * 256 + get_or s (p + w) 0) / 256 ≡ be w s p = omega arith in
-    let low_part : (be w s p * 256 + get_or s (p + w) 0) % 256 ≡ get_or s (p + w) 0 = omega arith in
-    rw (high_part, low_part, bytes_read w s p small (omega arith))
-    (sym (take-suc (drop p s) w 0 (omega (arith, length-drop p s)) ∙ ap (λ x. take w (drop p s) ++ (x ∷ [])) (get_or-drop p s w 0)))
-
--- so two reads are the same only if their bytes are
-pub read_same : (w : ℕ) (s t : List ℕ) (p q : ℕ) → ((i : ℕ) → get_or s i 0 < 256) → ((i : ℕ) → get_or t i 0 < 256) → p + w ≤ length s → q + w ≤ length t
-    → be w s p ≡ be w t q → take w (drop p s) ≡ take w (drop q t)
-read_same w s t p q small-s small-t h g e = sym (bytes_read w s p small-s h) ∙ ap (bytes w) e ∙ bytes_read w t q small-t g
 
 -- the v bytes of m and the w of n behind them, written as one number: as `be-join` reads it
 pub bytes-join : (v w m n : ℕ) → n < 256 ^ w → bytes (v + w) (m * 256 ^ w + n) ≡ bytes v m ++ bytes w n

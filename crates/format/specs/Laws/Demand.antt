@@ -1,7 +1,7 @@
 -- The check's answer in the words of demand 3, and demand 3.
 use Rattle.std.specs.Prelude.{ℕ, ◌-◌, ◌≤◌, ◌<◌, ◌≡◌, refl, ◌↔◌, List, length}
 use Rattle.std.proofs.Common.{sym, ap, ◌∙◌, mod-lt, arith}
-use Rattle.std.proofs.Math.Logic.{Iff·trans}
+use Rattle.std.proofs.Math.Logic.Iff
 use Rattle.format.specs.String.{hash}
 use Rattle.format.specs.Header.{buckets, bucket_field, directories}
 use Rattle.format.specs.Record.{name_of, bucket_of}
@@ -113,7 +113,7 @@ lookup-demand ρ s name room acc a =
     let h = acc.lower (bucket_of s name) (bucket-below acc name) in
     record {
       opens = λ n g. (found n g).opens;
-      absent = Iff·trans (found h.0 h.1).absent (nowhere acc name h.1);
+      absent = Iff.trans (found h.0 h.1).absent (nowhere acc name h.1);
     }
   where
     found : (n : ℕ) → Holds ρ s (bucket_of s name) n → InChain s name (bucket_of s name) n (lookup s name room)

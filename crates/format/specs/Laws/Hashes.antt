@@ -1,6 +1,6 @@
 -- What a byte counts as, that the hash of a name goes on from 0 byte by byte, and the bucket that
 -- it gives.
-use Rattle.std.specs.Prelude.{ℕ, suc, ◌+◌, ◌-◌, ◌*◌, ◌%◌, ◌^◌, ◌<◌, ◌≡◌, refl, List, [], ◌∷◌, ◌++◌, map, Bool, true, false, ◌&&◌, length, take, get_or, T, ltb, eqb}
+use Rattle.std.specs.Prelude.{ℕ, suc, ◌+◌, ◌-◌, ◌*◌, ◌%◌, ◌^◌, ◌<◌, ◌≡◌, refl, List, [], ◌∷◌, map, Bool, true, false, ◌&&◌, length, take, get_or, T, ltb, eqb}
 use Rattle.std.proofs.Common.{ap, arith, lt-ltb, ltb-true, ltb-false, take_all}
 use Rattle.format.specs.Choice.{if◌then◌else◌}
 use Rattle.format.specs.String.{string, signed, hash_from, hash_numbers, hash, allowed}
@@ -53,21 +53,6 @@ hash-from-none [] small = refl
 hash-from-none (b ∷ t) small =
     let itself : (31 * 0 + signed b) % 2 ^ 32 ≡ signed b = omega (arith, (signed-raised b small).0) in
     ap (λ h. hash_from h (map signed t)) itself
-
--- it goes on from one part to the other
-pub hash-on : (h : ℕ) (xs ys : List ℕ) → hash_from h (xs ++ ys) ≡ hash_from (hash_from h xs) ys
-unfolding hash_from
-hash-on h [] ys = refl
-hash-on h (x ∷ xs) ys = hash-on ((31 * h + x) % 2 ^ 32) xs ys
-
--- it is below 2^32
-from-small : (h : ℕ) (ns : List ℕ) → h < 2 ^ 32 → hash_from h ns < 2 ^ 32
-unfolding hash_from
-from-small h [] l = l
-from-small h (n ∷ ns) l = from-small ((31 * h + n) % 2 ^ 32) ns (omega arith)
-
-pub hash-small : (t : List ℕ) → get_or t 0 0 < 256 → hash t < 2 ^ 32
-hash-small t small = rw (← hash-from-none t small) (from-small 0 (map signed t) (omega arith))
 
 -- a name that may be asked for is hashed whole: no zero byte cuts it, and it is not too long
 pub allowed-hash : (name : List ℕ) → allowed name ≡ true → hash (take 255 (string name)) ≡ hash name

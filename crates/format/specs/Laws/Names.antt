@@ -7,7 +7,7 @@ use Rattle.std.proofs.lemmas.Bool.{false≢true}
 use Rattle.std.proofs.Math.Decide.{ℕ_discrete}
 use Rattle.format.specs.String.{string, extent, is_whole, same_bytes, among, spells_name, allowed}
 use Rattle.format.specs.Laws.Faults.{also}
-use Rattle.format.specs.Laws.Strings.{string-front, string-zero, whole-string}
+use Rattle.format.specs.Laws.Strings.{string-front, whole-string}
 use Rattle.format.specs.Laws.Texts.{allowed-tells, ended-string, ended-whole}
 
 pub same-equal : (a b : List ℕ) → same_bytes a b ≡ true → a ≡ b
@@ -52,6 +52,12 @@ pub record Begins (part name : List ℕ) : Type 0 where
   pub bytes : take (length name) part ≡ name
   pub room : length name < length part
   pub ended : get_or part (length name) 0 ≡ 0
+
+string-zero : (t : List ℕ) → get_or t (length (string t)) 0 ≡ 0
+unfolding string
+string-zero [] = refl
+string-zero (zero ∷ t) = refl
+string-zero (suc b ∷ t) = string-zero t
 
 -- that is how a part spells a name that may be asked for
 module _ (part name : List ℕ) where

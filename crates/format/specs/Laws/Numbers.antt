@@ -3,7 +3,7 @@
 use Prim.Native.Nat.{ℕ, zero, suc}
 use Rattle.std.specs.Prelude.{◌≡◌, List, [], ◌∷◌, Bool, true, false, ◌&&◌, ◌||◌, eqb}
 use Rattle.std.proofs.Math.Path.{refl}
-use Rattle.std.proofs.Common.{sym, ◌∙◌, ne_eqb}
+use Rattle.std.proofs.Common.{sym, ◌∙◌, subst, ne_eqb}
 use Rattle.std.proofs.Math.Bool.{and-eq-true_iff}
 use Rattle.std.proofs.lemmas.Bool.{false≢true}
 use Rattle.std.proofs.Math.Decide.{ℕ_discrete}
@@ -36,7 +36,7 @@ link_numbers ρ = 7 ∷ record_numbers ρ
 
 -- another number is none of them
 pub never : {ns : List ℕ} {x : ℕ} (n : ℕ) → OneOf ns x → listed n (0 ∷ ns) ≡ false → x ≡ n → ⊥
-never n h out e = false≢true (sym out ∙ rw e at h.one)
+never {ns} n h out e = false≢true (sym out ∙ subst (λ y. listed y (0 ∷ ns) ≡ true) e h.one)
 
 module _ {ns : List ℕ} where
   pub unless-one : (b : Bool) (n p : ℕ) → listed n (0 ∷ ns) ≡ true → OneOf ns (unless b n p).number

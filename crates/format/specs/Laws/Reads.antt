@@ -1,17 +1,11 @@
--- Which bytes make a number that is read, how it is made of numbers read at narrower widths, and
--- where the entries of a list that lies inside end.
-use Rattle.std.specs.Prelude.{ℕ, zero, suc, ◌+◌, ◌*◌, ◌^◌, ◌≤◌, ◌<◌, ◌≡◌, refl, List, true, length, take, drop, get_or}
+-- How a number read at one width is made of numbers read at narrower ones, and where the entries of
+-- a list that lies inside end.
+use Rattle.std.specs.Prelude.{ℕ, zero, suc, ◌+◌, ◌*◌, ◌^◌, ◌≤◌, ◌≡◌, refl, List, true, length, drop, get_or}
 use Rattle.std.proofs.Math.Bool.{and-eq-true_iff}
-use Rattle.std.proofs.Common.{zero-add, add-zero, add-suc, add_assoc, add-mul, mul-one, mul_assoc, pow-suc, arith, leb-true, le-leb, get_or-take, get_or-drop}
+use Rattle.std.proofs.Common.{zero-add, add-zero, add-suc, add_assoc, add-mul, mul-one, mul_assoc, pow-suc, arith, leb-true, le-leb, get_or-drop}
 use Rattle.format.specs.Number.{be}
 use Rattle.format.specs.Part.{inside, list_inside}
 use Rattle.format.specs.Laws.Faults.{also}
-
--- a number of w bytes is below 256^w
-pub be-below : (s : List ℕ) → ((i : ℕ) → get_or s i 0 < 256) → (w p : ℕ) → be w s p < 256 ^ w
-unfolding be
-be-below s small zero p = omega arith
-be-below s small (suc w) p = rw (pow-suc 256 w) (omega (arith, be-below s small w p, small (p + w)))
 
 -- one byte is a number of width 1
 pub be-byte : (s : List ℕ) (p : ℕ) → be 1 s p ≡ get_or s p 0
@@ -23,12 +17,6 @@ pub be-drop : (w : ℕ) (s : List ℕ) (p : ℕ) → be w s p ≡ be w (drop p s
 unfolding be
 be-drop zero s p = refl
 be-drop (suc w) s p = rw (be-drop w s p, zero-add, get_or-drop)
-
--- what stands behind a number plays no part
-pub be-take : (w n : ℕ) (s : List ℕ) (p : ℕ) → p + w ≤ n → be w (take n s) p ≡ be w s p
-unfolding be
-be-take zero n s p l = refl
-be-take (suc w) n s p l = rw (be-take w n s p (omega arith), get_or-take n s (p + w) 0 (omega arith))
 
 -- v bytes and the w after them, read as one number
 pub be-join : (v w : ℕ) (s : List ℕ) (p : ℕ) → be (v + w) s p ≡ be v s p * 256 ^ w + be w s (p + v)

@@ -1,6 +1,6 @@
 -- Laws of strings: where one stops and how it goes on, what is left of it, and what each answer of
 -- `extent` says of it.
-use Rattle.std.specs.Prelude.{ℕ, zero, suc, ◌+◌, ◌-◌, ◌≤◌, ◌<◌, ◌≡◌, refl, List, [], ◌∷◌, ◌++◌, Bool, true, false, take, drop, get_or, ltb, leb, eqb}
+use Rattle.std.specs.Prelude.{ℕ, zero, suc, ◌+◌, ◌-◌, ◌≤◌, ◌<◌, ◌≡◌, refl, List, [], ◌∷◌, Bool, true, false, take, drop, get_or, ltb, leb, eqb}
 use Rattle.std.proofs.Common.{zero-le, suc-le-suc, add-one, arith, take_all}
 use Rattle.std.proofs.Math.Path.{ap}
 use Rattle.std.proofs.lemmas.Bool.{false≢true}
@@ -85,19 +85,6 @@ string-front [] = refl
 string-front (zero ∷ t) = refl
 string-front (suc b ∷ t) = ap (λ s. suc b ∷ s) (string-front t)
 
--- the string of two parts: of both where the first has no zero byte, else the first's
-pub string-on : (xs ys : List ℕ) → length (string xs) ≡ length xs → string (xs ++ ys) ≡ xs ++ string ys
-unfolding string
-string-on [] ys e = refl
-string-on (zero ∷ xs) ys e = absurd (omega arith)
-string-on (suc b ∷ xs) ys e = ap (λ zs. suc b ∷ zs) (string-on xs ys (omega arith))
-
-pub string-cut : (xs ys : List ℕ) → length (string xs) < length xs → string (xs ++ ys) ≡ string xs
-unfolding string
-string-cut [] ys l = absurd (omega arith)
-string-cut (zero ∷ xs) ys l = refl
-string-cut (suc b ∷ xs) ys l = ap (λ zs. suc b ∷ zs) (string-cut xs ys (omega arith))
-
 -- what a whole string is: it has bytes, no more than the limit, and a zero byte stands after them
 pub record WholeString (limit : ℕ) (t : List ℕ) : Type 0 where
   pub some : 0 < length (string t)
@@ -156,26 +143,3 @@ whole-string limit t e = go (judged limit t) e
 -- so as many bytes as the limit allows are all of it, read from any part that is the same
 pub whole-within : (limit : ℕ) {u t : List ℕ} → u ≡ t → is_whole (extent limit t) ≡ true → take limit (string u) ≡ string t
 whole-within limit {u} {t} e w = rw e (take_all limit (string t) (whole-string limit t w).within)
-
--- the string of the first bytes
-pub string-take : (n : ℕ) (t : List ℕ) → string (take n t) ≡ take n (string t)
-unfolding string
-string-take zero t = refl
-string-take (suc n) [] = refl
-string-take (suc n) (zero ∷ t) = refl
-string-take (suc n) (suc b ∷ t) = ap (λ s. suc b ∷ s) (string-take n t)
-
--- as many bytes as it has, or fewer, are passed
-pub passed-within : (t : List ℕ) (i : ℕ) → i ≤ length (string t) → Passed t i
-unfolding string
-passed-within t zero l = omega arith
-passed-within [] (suc i) l = absurd (omega arith)
-passed-within (zero ∷ t) (suc i) l = absurd (omega arith)
-passed-within (suc b ∷ t) (suc i) l = omega (arith, passed-within t i (omega arith))
-
--- a zero byte stands behind it, or nothing
-pub string-zero : (t : List ℕ) → get_or t (length (string t)) 0 ≡ 0
-unfolding string
-string-zero [] = refl
-string-zero (zero ∷ t) = refl
-string-zero (suc b ∷ t) = string-zero t

@@ -3,13 +3,13 @@ use borrow.Author.Rules.{rules}
 use Rattle.icon_cache.proofs.check.Statement.{statement}
 use Rattle.icon_cache.proofs.check.Tie as tie
 
-pub check-spec : {M : Type 1} → statement M
-check-spec =
+pub check_spec : {M : Type 1} → statement M
+check_spec =
     tie.close
     (tie.spec
     (λ c. search rules)
     (λ c κs. search rules)
     (λ c. search rules)
     (λ c κs. search rules)
-    (λ c. rw c.before.enum_told.given.1 c.check-short.ensures)
-    (λ c. rw c.before.enum-told2.given.1 c.check-long.ensures))
+    (λ c. rw c.before.enum_told-1.given.1 c.check_short.ensures)
+    (λ c. rw c.before.enum_told-in-Long-1.given.1 c.check_long.ensures))

@@ -5,5 +5,5 @@ use Rattle.icon_cache.proofs.Meets.{meets}
 use Rattle.icon_cache.proofs.check_long.Statement.{statement}
 use Rattle.icon_cache.proofs.check_long.Tie as tie
 
-pub check-long-spec : {M : Type 1} → statement M
-check-long-spec = tie.close (tie.spec (λ c κs. search rules) (λ c κs. c.check-short.ensures.0) (λ c. meets Long _ c.check.ensures))
+pub check_long_spec : {M : Type 1} → statement M
+check_long_spec = tie.close (tie.spec (λ c κs. search rules) (λ c κs. c.check_short-short.ensures.0) (λ c. meets Long _ c.check.ensures))

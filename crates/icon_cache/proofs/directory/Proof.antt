@@ -7,7 +7,7 @@ use Rattle.icon_cache.proofs.directory.Tie as tie
 
 returns : tie.Need-returns
 unfolding directory_part directory
-returns c = rw c.directory-part.ensures
+returns c = rw c.directory_part-part.ensures
 
-pub directory-spec : {M : Type 1} → statement M
-directory-spec = tie.close (tie.spec (λ c κs. search rules) returns)
+pub directory_spec : {M : Type 1} → statement M
+directory_spec = tie.close (tie.spec (λ c κs. search rules) returns)

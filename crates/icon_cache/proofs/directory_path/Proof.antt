@@ -9,11 +9,11 @@ use Rattle.format.specs.Laws.Directory.{part-inside, part-path}
 use Rattle.icon_cache.proofs.directory_path.Statement.{statement}
 use Rattle.icon_cache.proofs.directory_path.Tie as tie
 
-inside : (c : tie.After-directory-part)
-    → c.directory-part.result.start + c.directory-part.result.length ≤ length c.before.before.args.cache.now
-inside c = rw c.directory-part.ensures (part-inside _ _)
+inside : (c : tie.After-directory_part-part)
+    → c.directory_part-part.result.start + c.directory_part-part.result.length ≤ length c.before.before.args.cache.now
+inside c = rw c.directory_part-part.ensures (part-inside _ _)
 
-add-end : tie.Need-overflow-add-end
+add-end : tie.Need-overflow_add-end
 add-end c = omega (arith, inside c.before)
 
 part-result-end : tie.Need-slice-bounds-result-end
@@ -22,10 +22,10 @@ part-result-end c = omega (arith, inside c.before)
 returns : tie.Need-returns
 returns c =
     let part = c.before.before in
-    let cut = add-sub_cancel_left part.directory-part.result.start part.directory-part.result.length in
-    rw (cut, part.directory-part.ensures) (part-path _ _)
+    let cut = add-sub_cancel_left part.directory_part-part.result.start part.directory_part-part.result.length in
+    rw (cut, part.directory_part-part.ensures) (part-path _ _)
 
-pub directory-path-spec : {M : Type 1} → statement M
-directory-path-spec =
+pub directory_path_spec : {M : Type 1} → statement M
+directory_path_spec =
     tie.close
     (tie.spec (λ c κs. search rules) add-end (λ c. search rules) (λ c. search rules) part-result-end returns)

@@ -18,46 +18,46 @@ use Rattle.icon_cache.proofs.find.Statement.{statement}
 use Rattle.icon_cache.proofs.find.Tie as tie
 
 -- the call's start, from where the name is allowed, and that place from where the header is kept
-abbrev start : tie.Else1 → tie.Start
+abbrev start : tie.Else-not-query → tie.Start
 start c = c.before.before.before.before.before
 
-abbrev asks_at : tie.Else2 → tie.Else1
+abbrev asks_at : tie.Else-header-ne0 → tie.Else-not-query
 asks_at c = c.before.before.before
 
 -- the name may be asked for, and the header breaks no rule
-may-be : (c : tie.Else1) → allowed (start c).args.name.now ≡ true
-may-be c = sym c.before.before.asked.ensures.0 ∙ not-false _ c.if1.false
+may-be : (c : tie.Else-not-query) → allowed (start c).args.name.now ≡ true
+may-be c = sym c.before.before.asked-query.ensures.0 ∙ not-false _ c.if-not-query.false
 
-header-kept : (c : tie.Else2) → (header_fault (start (asks_at c)).args.cache.now).number ≡ 0
-header-kept c = same_number (sym c.before.before.header.ensures) ∙ c.if2.false
+header-kept : (c : tie.Else-header-ne0) → (header_fault (start (asks_at c)).args.cache.now).number ≡ 0
+header-kept c = same_number (sym c.before.before.header-header.ensures) ∙ c.if-header-ne0.false
 
 -- the bucket searched is the name's
-bucket-is : (c : tie.After-struct-known4)
+bucket-is : (c : tie.After-struct_known-4-1)
     → let may = asks_at c.before.before.before in
     let a = (start may).args in
-    may.before.before.asked.result.hash % c.before.before.read.result.buckets ≡ bucket_of a.cache.now a.name.now
+    may.before.before.asked-query.result.hash % c.before.before.read-t.result.buckets ≡ bucket_of a.cache.now a.name.now
 bucket-is c =
     let may = asks_at c.before.before.before in
-    hash-bucket _ _ (may.before.before.asked.ensures.1 ∙ allowed-hash _ (may-be may)) (same-buckets c.before.before.read.ensures)
+    hash-bucket _ _ (may.before.before.asked-query.ensures.1 ∙ allowed-hash _ (may-be may)) (same-buckets c.before.before.read-t.ensures)
 
-returns : tie.Need-returns
+returns : tie.Need-returns-then-not-query
 returns c =
-    let refused = query-unallowed _ _ (sym c.before.before.before.asked.ensures.0 ∙ not-true _ c.before.if1.true) in
+    let refused = query-unallowed _ _ (sym c.before.before.before.asked-query.ensures.0 ∙ not-true _ c.before.if-not-query.true) in
     c.unfound.ensures ∙ sym (find-refuses _ _ refused (λ z. omega arith))
 
-returns-2 : tie.Need-returns-2
+returns-2 : tie.Need-returns-then-header-ne0
 returns-2 c =
     let header = c.before.before.before in
-    let refused = query-allowed _ _ (may-be header.before) ∙ sym header.header.ensures in
-    c.unfound2.ensures ∙ sym (find-refuses _ _ refused c.before.if2.true)
+    let refused = query-allowed _ _ (may-be header.before) ∙ sym header.header-header.ensures in
+    c.unfound-then-header-ne0.ensures ∙ sym (find-refuses _ _ refused c.before.if-header-ne0.true)
 
 search-requires : tie.Need-search-requires
 search-requires c κs =
     let read = c.before.before in
-    let below = mod-lt _ (valid-header read.read.ensures).buckets-some in
-    (read.read.ensures, (rw (bucket-is c) below, (may-be (asks_at read.before), sym (bucket-is c))))
+    let below = mod-lt _ (valid-header read.read-t.ensures).buckets-some in
+    (read.read-t.ensures, (rw (bucket-is c) below, (may-be (asks_at read.before), sym (bucket-is c))))
 
-returns-3 : tie.Need-returns-3
+returns-3 : tie.Need-returns
 returns-3 c =
     let known = c.before in
     let kept = known.before.before.before in
@@ -75,6 +75,6 @@ find_spec =
     (λ c κs. search rules)
     returns-2
     (λ c κs. header-kept c)
-    (λ c. let read = c.before.before.read.ensures in rw (same-buckets read) (valid-header read).buckets-some)
+    (λ c. let read = c.before.before.read-t.ensures in rw (same-buckets read) (valid-header read).buckets-some)
     search-requires
     returns-3)

@@ -5,7 +5,7 @@ use Rattle.icon_cache_c.proofs.icon_cache_directory_path.Statement.{statement}
 use Rattle.icon_cache_c.proofs.icon_cache_directory_path.Tie as tie
 
 returns : tie.Need-returns
-returns c = rw c.directory-part.ensures
+returns c = rw c.directory_part-answer.ensures
 
-pub icon-cache-directory-path-spec : {M : Type 1} → statement M
-icon-cache-directory-path-spec = tie.close (tie.spec (λ c κs. search rules) returns)
+pub icon_cache_directory_path_spec : {M : Type 1} → statement M
+icon_cache_directory_path_spec = tie.close (tie.spec (λ c κs. search rules) returns)

@@ -6,7 +6,7 @@ use Rattle.icon_cache_c.proofs.icon_cache_flags_in.Statement.{statement}
 use Rattle.icon_cache_c.proofs.icon_cache_flags_in.Tie as tie
 
 returns : tie.Need-returns
-returns c = rw c.flags-in.ensures (no_place _ _ _)
+returns c = rw c.flags_in-answer.ensures (no_place _ _ _)
 
-pub icon-cache-flags-in-spec : {M : Type 1} → statement M
-icon-cache-flags-in-spec = tie.close (tie.spec (λ c κs. search rules) returns)
+pub icon_cache_flags_in_spec : {M : Type 1} → statement M
+icon_cache_flags_in_spec = tie.close (tie.spec (λ c κs. search rules) returns)

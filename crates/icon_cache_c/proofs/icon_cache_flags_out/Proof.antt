@@ -6,7 +6,7 @@ use Rattle.icon_cache_c.proofs.icon_cache_flags_out.Statement.{statement}
 use Rattle.icon_cache_c.proofs.icon_cache_flags_out.Tie as tie
 
 returns : tie.Need-returns
-returns c = rw c.flags-out.ensures (no_place _ _ _)
+returns c = rw c.flags_out-answer.ensures (no_place _ _ _)
 
-pub icon-cache-flags-out-spec : {M : Type 1} → statement M
-icon-cache-flags-out-spec = tie.close (tie.spec (λ c κs. search rules) returns)
+pub icon_cache_flags_out_spec : {M : Type 1} → statement M
+icon_cache_flags_out_spec = tie.close (tie.spec (λ c κs. search rules) returns)

@@ -4,8 +4,8 @@ use borrow.Author.Rules.{rules}
 use Rattle.image_data.proofs.bytes.Statement.{statement}
 use Rattle.image_data.proofs.bytes.Tie as tie
 
-pub bytes-spec : {M : Type 1} → statement M
-bytes-spec =
+pub bytes_spec : {M : Type 1} → statement M
+bytes_spec =
     tie.close
     (tie.spec
     (λ c. search rules)

@@ -12,22 +12,22 @@ use Rattle.image_data.specs.Laws.Called.{display-refused, display-judged}
 use Rattle.image_data.proofs.display.Statement.{statement}
 use Rattle.image_data.proofs.display.Tie as tie
 
-inside : (c : tie.Else1) → let way = c.before.before in way.entry-part.result.at + 8 ≤ length way.before.before.args.cache.now
+inside : (c : tie.Else-way-ne0) → let way = c.before.before in way.entry_part-way.result.at + 8 ≤ length way.before.before.args.cache.now
 inside c =
-    let way = c.before.before.entry-part.ensures in
-    rw (way.leads c.if1.false) (entry-inside _ _ _ _ (or_else-none _ _ (way-kept way c.if1.false)).1)
+    let way = c.before.before.entry_part-way.ensures in
+    rw (way.leads c.if-way-ne0.false) (entry-inside _ _ _ _ (or_else-none _ _ (way-kept way c.if-way-ne0.false)).1)
 
-returns : tie.Need-returns
-returns c = c.no-string.ensures ∙ display-refused _ _ _ _ c.before.before.before.entry-part.ensures c.before.if1.true
+returns : tie.Need-returns-then-way-ne0
+returns c = c.no_string.ensures ∙ display-refused _ _ _ _ c.before.before.before.entry_part-way.ensures c.before.if-way-ne0.true
 
-returns-2 : tie.Need-returns-2
+returns-2 : tie.Need-returns
 returns-2 c =
     let found = c.before.before in
-    let way = found.before.before.entry-part.ensures in
-    rw (way.leads found.if1.false) at c.string.ensures ∙ display-judged _ _ _ _ way found.if1.false
+    let way = found.before.before.entry_part-way.ensures in
+    rw (way.leads found.if-way-ne0.false) at c.string.ensures ∙ display-judged _ _ _ _ way found.if-way-ne0.false
 
-pub display-spec : {M : Type 1} → statement M
-display-spec =
+pub display_spec : {M : Type 1} → statement M
+display_spec =
     tie.close
     (tie.spec
     (λ c κs. search rules)

@@ -13,5 +13,5 @@ returns c =
     let e = c.display.ensures ∙ ap (display _ _ _) (add-zero _) in
     (e, (λ accepted image. rw e ((promise _ _).language _ accepted image), rw e (string-inside _ _ _ _)))
 
-pub display-language-spec : {M : Type 1} → statement M
-display-language-spec = tie.close (tie.spec (λ c κs. search rules) returns)
+pub display_language_spec : {M : Type 1} → statement M
+display_language_spec = tie.close (tie.spec (λ c κs. search rules) returns)

@@ -5,10 +5,10 @@ use Rattle.image_data.specs.Laws.Inside.{string_bytes_lem}
 use Rattle.image_data.proofs.display_language_bytes.Statement.{statement}
 use Rattle.image_data.proofs.display_language_bytes.Tie as tie
 
-pub display-language-bytes-spec : {M : Type 1} → statement M
-display-language-bytes-spec =
+pub display_language_bytes_spec : {M : Type 1} → statement M
+display_language_bytes_spec =
     tie.close
     (tie.spec
     (λ c κs. search rules)
     (λ c κs. search rules)
-    (λ c. c.bytes.ensures ∙ rw c.before.display-language.ensures.0 (string_bytes_lem _ _ _ _)))
+    (λ c. c.bytes.ensures ∙ rw c.before.display_language-part.ensures.0 (string_bytes_lem _ _ _ _)))

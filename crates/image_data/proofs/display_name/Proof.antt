@@ -10,5 +10,5 @@ returns c =
     let e = c.display.ensures in
     (e, (λ accepted image. rw e ((promise _ _).text _ accepted image), rw e (string-inside _ _ _ _)))
 
-pub display-name-spec : {M : Type 1} → statement M
-display-name-spec = tie.close (tie.spec (λ c κs. search rules) returns)
+pub display_name_spec : {M : Type 1} → statement M
+display_name_spec = tie.close (tie.spec (λ c κs. search rules) returns)

@@ -5,10 +5,10 @@ use Rattle.image_data.specs.Laws.Inside.{string_bytes_lem}
 use Rattle.image_data.proofs.display_name_bytes.Statement.{statement}
 use Rattle.image_data.proofs.display_name_bytes.Tie as tie
 
-pub display-name-bytes-spec : {M : Type 1} → statement M
-display-name-bytes-spec =
+pub display_name_bytes_spec : {M : Type 1} → statement M
+display_name_bytes_spec =
     tie.close
     (tie.spec
     (λ c κs. search rules)
     (λ c κs. search rules)
-    (λ c. c.bytes.ensures ∙ rw c.before.display-name.ensures.0 (string_bytes_lem _ _ _ _)))
+    (λ c. c.bytes.ensures ∙ rw c.before.display_name-part.ensures.0 (string_bytes_lem _ _ _ _)))

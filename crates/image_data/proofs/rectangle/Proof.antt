@@ -21,27 +21,27 @@ use Rattle.image_data.proofs.rectangle.Tie as tie
 meets : (s : List ℕ) (d : ℕ) {r : RectangleAnswer} → r ≡ rectangle s d → (r ≡ rectangle s d) × AfterLong s d r.number
 meets s d e = (e, λ accepted image. rw e ((promise s d).rectangle accepted image))
 
-inside : (c : tie.Else1)
-    → let way = c.before.before in way.rectangle-part.result.at + 8 ≤ length way.before.before.args.cache.now
+inside : (c : tie.Else-way-ne0)
+    → let way = c.before.before in way.rectangle_part-way.result.at + 8 ≤ length way.before.before.args.cache.now
 unfolding rectangle_call_fault
 inside c =
-    let way = c.before.before.rectangle-part.ensures in
-    rw (way.leads c.if1.false) (part-inside _ _ _ _ (or_else-none _ _ (way-kept way c.if1.false)).1)
+    let way = c.before.before.rectangle_part-way.ensures in
+    rw (way.leads c.if-way-ne0.false) (part-inside _ _ _ _ (or_else-none _ _ (way-kept way c.if-way-ne0.false)).1)
 
-returns : tie.Need-returns
-returns c = meets _ _ (rectangle-refused _ _ c.before.before.rectangle-part.ensures c.if1.true)
+returns : tie.Need-returns-then-way-ne0
+returns c = meets _ _ (rectangle-refused _ _ c.before.before.rectangle_part-way.ensures c.if-way-ne0.true)
 
-returns-2 : tie.Need-returns-2
+returns-2 : tie.Need-returns
 returns-2 c =
     let third = c.before in
     let second = third.before in
     let first = second.before in
     let found = first.before in
-    let corners = rectangle-found _ _ found.before.before.rectangle-part.ensures found.if1.false in
-    meets _ _ (rw (first.u16-at.ensures, second.u16-at2.ensures, third.u16-at3.ensures, c.u16-at4.ensures) corners)
+    let corners = rectangle-found _ _ found.before.before.rectangle_part-way.ensures found.if-way-ne0.false in
+    meets _ _ (rw (first.u16_at.ensures, second.u16_at-2.ensures, third.u16_at-3.ensures, c.u16_at-4.ensures) corners)
 
-pub rectangle-spec : {M : Type 1} → statement M
-rectangle-spec =
+pub rectangle_spec : {M : Type 1} → statement M
+rectangle_spec =
     tie.close
     (tie.spec
     (λ c κs. search rules)

@@ -7,5 +7,5 @@ use Rattle.image_data.proofs.stopped.Tie as tie
 returns : tie.Need-returns
 returns c p = record { judged = refl; leads = λ z. absurd (omega (arith, c.requires, z)) }
 
-pub stopped-spec : {M : Type 1} → statement M
-stopped-spec = tie.close (tie.spec returns)
+pub stopped_spec : {M : Type 1} → statement M
+stopped_spec = tie.close (tie.spec returns)

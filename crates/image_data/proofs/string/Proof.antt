@@ -10,27 +10,27 @@ use Rattle.image_data.specs.Call.{string_judged}
 use Rattle.image_data.proofs.string.Statement.{statement}
 use Rattle.image_data.proofs.string.Tie as tie
 
-returns : tie.Need-returns
+returns : tie.Need-returns-in_default
 unfolding note_fault
 returns c =
-    let read = c.before.before.extent-at.ensures in
-    let broken = unless-broken _ 24 _ (ap is_whole (sym read) ∙ tag-not-whole _ c.before.match.keys2) in
-    c.no-string.ensures ∙ ap (string_judged _ _) (sym broken)
+    let read = c.before.before.extent_at.ensures in
+    let broken = unless-broken _ 24 _ (ap is_whole (sym read) ∙ tag-not-whole _ c.before.in-Whole.keys2) in
+    c.no_string.ensures ∙ ap (string_judged _ _) (sym broken)
 
-returns-2 : tie.Need-returns-2
+returns-2 : tie.Need-returns
 unfolding note_fault
 returns-2 c =
     let told = c.before.before in
-    let whole = sym told.before.before.extent-at.ensures ∙ told.length.given.1 in
+    let whole = sym told.before.before.extent_at.ensures ∙ told.length-1.given.1 in
     let kept = unless-kept _ 24 _ (whole-is-whole 255 _ _ whole) in
-    rw (c.u32-at.ensures, whole_length 255 _ _ whole) (ap (string_judged _ _) (sym kept))
+    rw (c.u32_at.ensures, whole_length 255 _ _ whole) (ap (string_judged _ _) (sym kept))
 
-pub string-spec : {M : Type 1} → statement M
-string-spec =
+pub string_spec : {M : Type 1} → statement M
+string_spec =
     tie.close
     (tie.spec
     (λ c κs. search rules)
-    (λ c. c.match.keys1)
+    (λ c. c.in-Whole.keys1)
     (λ c κs. search rules)
     returns
     (λ c κs. search rules)

@@ -11,18 +11,18 @@ use Rattle.in_order.proofs.next.Tie as tie
 here : (c : tie.Start) → Here c.args.cache.now c.args.cursor.number c.args.cursor.bucket c.args.cursor.«record»
 here c = c.requires.1.here c.requires.2
 
-add-settle : tie.Need-overflow-add-settle
+add-settle : tie.Need-overflow_add-cursor
 add-settle c =
     let s = c.before.before.before in
     omega (arith, here-below s.requires.0.accepted (here s), records-few s.requires.0.accepted, valid-header s.requires.0.tables)
 
-u32-at-requires : tie.Need-u32-at-requires
+u32-at-requires : tie.Need-u32_at-requires
 u32-at-requires c κs = let s = c.before.before.before in omega (arith, (here-keeps (here s)).inside)
 
 settle-requires : tie.Need-settle-requires
 settle-requires c κs =
     let s = c.before.before.before.before in
-    (s.requires.0, behind s.requires.0.accepted (here s) c.u32-at.ensures)
+    (s.requires.0, behind s.requires.0.accepted (here s) c.u32_at.ensures)
 
-pub next-spec : {M : Type 1} → statement M
-next-spec = tie.close (tie.spec (λ c. search rules) add-settle u32-at-requires settle-requires (λ c. search rules))
+pub next_spec : {M : Type 1} → statement M
+next_spec = tie.close (tie.spec (λ c. search rules) add-settle u32-at-requires settle-requires (λ c. search rules))

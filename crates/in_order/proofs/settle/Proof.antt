@@ -13,59 +13,59 @@ use Rattle.in_order.specs.Laws.{before_here, before-next, before-all}
 use Rattle.in_order.proofs.settle.Statement.{statement}
 use Rattle.in_order.proofs.settle.Tie as tie
 
-abbrev invariant-loop : tie.invariant-loop
+abbrev invariant-loop : tie.invariant-loop-named
 invariant-loop cache t number bucket «record» k₀ named₀ k named = Before cache number k named
 
-abbrev decreases-loop : tie.decreases-loop
+abbrev decreases-loop : tie.decreases-loop-named
 decreases-loop cache t number bucket «record» k₀ named₀ k named = buckets cache - k
 
 -- what was told at the start
-abbrev start : tie.In-loop invariant-loop decreases-loop → tie.Start invariant-loop decreases-loop
+abbrev start : tie.In-loop-named invariant-loop decreases-loop → tie.Start invariant-loop decreases-loop
 start c = c.before.before.before
 
-add-k : tie.Need-overflow-add-k invariant-loop decreases-loop
-add-k c = omega (arith, c.before.loop.invariant.bucket, valid-header (start c).requires.0.tables)
+add-k : tie.Need-overflow_add-k invariant-loop decreases-loop
+add-k c = omega (arith, c.before.loop-named.invariant.bucket, valid-header (start c).requires.0.tables)
 
-returns : tie.Need-returns invariant-loop decreases-loop
+returns : tie.Need-returns-then-k-t invariant-loop decreases-loop
 returns c =
     let turn = c.before.before in
     let s = start turn in
-    let ended = turn.loop-test.true in
-    let last : suc turn.before.loop.k ≡ buckets s.args.cache.now = omega (arith, c.if1.true, same-buckets s.pre.0.tables) in
-    (record { here = λ real. absurd (real ended); all = λ e. before-all s.pre.0.accepted turn.before.loop.invariant ended last }, refl)
+    let ended = turn.loop-named-test.true in
+    let last : suc turn.before.loop-named.k ≡ buckets s.args.cache.now = omega (arith, c.if-k-t.true, same-buckets s.pre.0.tables) in
+    (record { here = λ real. absurd (real ended); all = λ e. before-all s.pre.0.accepted turn.before.loop-named.invariant ended last }, refl)
 
 -- the next bucket's field
-module _ (c : tie.Else1 invariant-loop decreases-loop) where
-  abbrev turn : tie.In-loop invariant-loop decreases-loop
+module _ (c : tie.Else-k-t invariant-loop decreases-loop) where
+  abbrev turn : tie.In-loop-named invariant-loop decreases-loop
   turn = c.before.before
 
-  more : suc turn.before.loop.k < buckets (start turn).args.cache.now
-  more = omega (arith, c.if1.false, same-buckets (start turn).pre.0.tables, turn.before.loop.inv.bucket)
+  more : suc turn.before.loop-named.k < buckets (start turn).args.cache.now
+  more = omega (arith, c.if-k-t.false, same-buckets (start turn).pre.0.tables, turn.before.loop-named.inv.bucket)
 
-u32-at-requires : tie.Need-u32-at-requires invariant-loop decreases-loop
+u32-at-requires : tie.Need-u32_at-named-requires invariant-loop decreases-loop
 u32-at-requires c κs =
     let s = start (turn c.before) in
-    let k = (turn c.before).before.loop.k + 1 in
+    let k = (turn c.before).before.loop-named.k + 1 in
     let inside = field-inside s.pre.0.tables k (omega (arith, more c.before)) in
-    omega (arith, c.bucket-field.ensures ∙ same-field s.pre.0.tables k)
+    omega (arith, c.bucket_field.ensures ∙ same-field s.pre.0.tables k)
 
-loop-again : tie.Need-loop-preserved invariant-loop decreases-loop
+loop-again : tie.Need-loop-named-preserved invariant-loop decreases-loop
 loop-again c =
     let field = c.before in
     let t = turn field.before in
     let s = start t in
-    let k = t.before.loop.k in
-    let told = field.bucket-field.ensures ∙ same-field s.pre.0.tables (k + 1) in
-    rw add-one (before-next s.pre.0.accepted t.before.loop.inv t.loop-test.taken (more field.before)
-    (c.u32-at.ensures ∙ ap (be 4 s.args.cache.now) (rw add-one at told)))
+    let k = t.before.loop-named.k in
+    let told = field.bucket_field.ensures ∙ same-field s.pre.0.tables (k + 1) in
+    rw add-one (before-next s.pre.0.accepted t.before.loop-named.inv t.loop-named-test.taken (more field.before)
+    (c.u32_at-named.ensures ∙ ap (be 4 s.args.cache.now) (rw add-one at told)))
 
-returns-2 : tie.Need-returns-2 invariant-loop decreases-loop
+returns-2 : tie.Need-returns invariant-loop decreases-loop
 returns-2 c =
     let l = c.before in
-    (record { here = before_here l.before.before.requires.0.accepted l.loop.invariant; all = λ e. absurd (c.loop-test.false e) }, refl)
+    (record { here = before_here l.before.before.requires.0.accepted l.loop-named.invariant; all = λ e. absurd (c.loop-named-test.false e) }, refl)
 
-pub settle-spec : {M : Type 1} → statement M
-settle-spec =
+pub settle_spec : {M : Type 1} → statement M
+settle_spec =
     tie.close
     (tie.spec
     invariant-loop
@@ -75,6 +75,6 @@ settle-spec =
     returns
     (λ c κs. search rules)
     u32-at-requires
-    (λ c. let t = turn c.before.before in omega (arith, t.before.loop.inv.bucket))
+    (λ c. let t = turn c.before.before in omega (arith, t.before.loop-named.inv.bucket))
     loop-again
     returns-2)

@@ -15,53 +15,53 @@ use Rattle.entries.specs.declared.Judged.{Judged}
 use Rattle.judging.proofs.fields.Statement.{statement}
 use Rattle.judging.proofs.fields.Tie as tie
 
-returns : tie.Need-returns
+returns : tie.Need-returns-then-catalogue-lt2
 returns c =
     let cut = first-count-cut c.before.before.before.args.catalogue.now (omega arith) in
-    parted-broken (c.no-parts.ensures ∙ sym cut) (λ z. omega (arith, same_number cut))
+    parted-broken (c.no_parts.ensures ∙ sym cut) (λ z. omega (arith, same_number cut))
 
 -- the paths are judged
-abbrev start : tie.After-paths → tie.Start
+abbrev start : tie.After-paths-judged → tie.Start
 start c = c.before.before.before.before
 
-module _ (c : tie.After-paths) where
-  told : let s = (start c).args.catalogue.now in c.paths.result ≡ row_judged (path_fields_fault s) (path_end s) (path_count s) 2
-  told = let s = (start c).args.catalogue.now in c.paths.ensures ∙ ap (λ n. row_judged (path_fields_fault s) (path_end s) n 2) c.before.u16-at.ensures
+module _ (c : tie.After-paths-judged) where
+  told : let s = (start c).args.catalogue.now in c.paths-judged.result ≡ row_judged (path_fields_fault s) (path_end s) (path_count s) 2
+  told = let s = (start c).args.catalogue.now in c.paths-judged.ensures ∙ ap (λ n. row_judged (path_fields_fault s) (path_end s) n 2) c.before.u16_at-n.ensures
 
-  fault-is : let s = (start c).args.catalogue.now in c.paths.result.fault ≡ first_fault (path_fields_fault s) (path_end s) (path_count s) 2
-  fault-is = ap (λ (b : Judged). b.fault) told
+  fault-is : let s = (start c).args.catalogue.now in c.paths-judged.result.fault ≡ first_fault (path_fields_fault s) (path_end s) (path_count s) 2
+  fault-is = ap (λ (b : Judged). b.fault-1) told
 
   there : 2 ≤ length (start c).args.catalogue.now
   there = omega arith
 
-returns-2 : tie.Need-returns-2
+returns-2 : tie.Need-returns-then-fault-ne0
 returns-2 c =
     let i = c.before.before.before.before in
-    let broken = rw (fault-is i) at c.before.if2.true in
+    let broken = rw (fault-is i) at c.before.if-fault-ne0.true in
     let refused = paths-refused _ (there i) broken in
-    parted-broken (c.no-parts2.ensures ∙ fault-is i ∙ sym refused) (rw (← refused) at broken)
+    parted-broken (c.no_parts-then-fault-ne0.ensures ∙ fault-is i ∙ sym refused) (rw (← refused) at broken)
 
 -- they are kept, and end where the icons are counted
-module _ (c : tie.Else2) where
-  abbrev judge : tie.After-paths
+module _ (c : tie.Else-fault-ne0) where
+  abbrev judge : tie.After-paths-judged
   judge = c.before.before.before
 
   kept : let s = (start judge).args.catalogue.now in (first_fault (path_fields_fault s) (path_end s) (path_count s) 2).number ≡ 0
-  kept = sym (same_number (fault-is judge)) ∙ c.if2.false
+  kept = sym (same_number (fault-is judge)) ∙ c.if-fault-ne0.false
 
-  end_is : judge.paths.result.end ≡ icon_count_at (start judge).args.catalogue.now
-  end_is = judged-end (path_fields_fault _) _ _ _ (told judge) c.if2.false
+  end_is : judge.paths-judged.result.end ≡ icon_count_at (start judge).args.catalogue.now
+  end_is = judged-end (path_fields_fault _) _ _ _ (told judge) c.if-fault-ne0.false
 
-  end-inside : judge.paths.result.end ≤ length (start judge).args.catalogue.now
+  end-inside : judge.paths-judged.result.end ≤ length (start judge).args.catalogue.now
   end-inside = let s = (start judge).args.catalogue.now in omega (arith, end_is, row_inside (path_fields_fault s) (path_end s) (path_inside s) (path_count s) 2 (there judge) kept)
 
-returns-3 : tie.Need-returns-3
+returns-3 : tie.Need-returns
 returns-3 c =
     let e = c.before in
-    icons-decide _ (there (judge e)) (kept e) (judge e).before.u16-at.ensures (end_is e) c.icon-section.ensures
+    icons-decide _ (there (judge e)) (kept e) (judge e).before.u16_at-n.ensures (end_is e) c.icon_section.ensures
 
-pub fields-spec : {M : Type 1} → statement M
-fields-spec =
+pub fields_spec : {M : Type 1} → statement M
+fields_spec =
     tie.close
     (tie.spec
     (λ c κs. search rules)

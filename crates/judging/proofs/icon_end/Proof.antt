@@ -10,11 +10,11 @@ returns : tie.Need-returns
 returns c =
     let a = c.before.before.before.args in
     let s = a.catalogue.now in
-    ap (λ m. a.at + 1 + c.before.byte.result + 2 + 8 * m) c.u16-at.ensures
+    ap (λ m. a.at + 1 + c.before.byte.result + 2 + 8 * m) c.u16_at.ensures
     ∙ ap (λ n. a.at + 1 + n + 2 + 8 * be 2 s (a.at + 1 + n)) c.before.byte.ensures.0
 
-pub icon-end-spec : {M : Type 1} → statement M
-icon-end-spec =
+pub icon_end_spec : {M : Type 1} → statement M
+icon_end_spec =
     tie.close
     (tie.spec
     (λ c. search rules)

@@ -12,34 +12,34 @@ use Rattle.entries.specs.Laws.{icon-inside, judged-done, judged-stops, judged-in
 use Rattle.judging.proofs.icons.Statement.{statement}
 use Rattle.judging.proofs.icons.Tie as tie
 
-abbrev invariant-loop : tie.invariant-loop
+abbrev invariant-loop : tie.invariant-loop-left
 invariant-loop catalogue n m at left₀ here₀ left here =
     (here ≤ length catalogue) × (row_judged (icon_fields_fault n catalogue) (icon_end catalogue) left here ≡ row_judged (icon_fields_fault n catalogue) (icon_end catalogue) m at)
 
-abbrev decreases-loop : tie.decreases-loop
+abbrev decreases-loop : tie.decreases-loop-left
 decreases-loop catalogue n m at left₀ here₀ left here = left
 
-loop-holds : tie.Need-loop-init invariant-loop decreases-loop
+loop-holds : tie.Need-loop-left-init invariant-loop decreases-loop
 loop-holds c = (c.before.requires, refl)
 
-returns : tie.Need-returns invariant-loop decreases-loop
+returns : tie.Need-returns-then-fault-ne0 invariant-loop decreases-loop
 returns c =
     let judge = c.before.before.before in
-    judged-stops _ _ _ _ _ judge.before.loop-test.true judge.icon.ensures c.if1.true ∙ judge.before.before.loop.invariant.1
+    judged-stops _ _ _ _ _ judge.before.loop-left-test.true judge.icon-judged.ensures c.if-fault-ne0.true ∙ judge.before.before.loop-left.invariant.1
 
-loop-again : tie.Need-loop-preserved invariant-loop decreases-loop
+loop-again : tie.Need-loop-left-preserved invariant-loop decreases-loop
 loop-again c =
     let judge = c.before.before.before in
-    let l = judge.before.before.loop in (
-      judged-inside (icon_fields_fault _ _) (icon_end _) l.left l.here judge.icon.ensures c.if1.false (icon-inside _ _ _),
-      judged-goes-on _ _ _ _ judge.icon.ensures c.if1.false _ (omega (arith, judge.before.loop-test)) ∙ l.invariant.1,
+    let l = judge.before.before.loop-left in (
+      judged-inside (icon_fields_fault _ _) (icon_end _) l.left l.here judge.icon-judged.ensures c.if-fault-ne0.false (icon-inside _ _ _),
+      judged-goes-on _ _ _ _ judge.icon-judged.ensures c.if-fault-ne0.false _ (omega (arith, judge.before.loop-left-test)) ∙ l.invariant.1,
     )
 
-returns-2 : tie.Need-returns-2 invariant-loop decreases-loop
-returns-2 c = let l = c.before.before.loop in judged-done _ _ _ _ (omega arith) c.kept.ensures ∙ l.invariant.1
+returns-2 : tie.Need-returns invariant-loop decreases-loop
+returns-2 c = let l = c.before.before.loop-left in judged-done _ _ _ _ (omega arith) c.kept.ensures ∙ l.invariant.1
 
-pub icons-spec : {M : Type 1} → statement M
-icons-spec =
+pub icons_spec : {M : Type 1} → statement M
+icons_spec =
     tie.close
     (tie.spec
     invariant-loop

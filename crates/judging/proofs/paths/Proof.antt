@@ -12,34 +12,34 @@ use Rattle.entries.specs.Laws.{path_inside, judged-done, judged-stops, judged-in
 use Rattle.judging.proofs.paths.Statement.{statement}
 use Rattle.judging.proofs.paths.Tie as tie
 
-abbrev invariant-loop : tie.invariant-loop
+abbrev invariant-loop : tie.invariant-loop-left
 invariant-loop catalogue n at left₀ here₀ left here =
     (here ≤ length catalogue) × (row_judged (path_fields_fault catalogue) (path_end catalogue) left here ≡ row_judged (path_fields_fault catalogue) (path_end catalogue) n at)
 
-abbrev decreases-loop : tie.decreases-loop
+abbrev decreases-loop : tie.decreases-loop-left
 decreases-loop catalogue n at left₀ here₀ left here = left
 
-loop-holds : tie.Need-loop-init invariant-loop decreases-loop
+loop-holds : tie.Need-loop-left-init invariant-loop decreases-loop
 loop-holds c = (c.before.requires, refl)
 
-returns : tie.Need-returns invariant-loop decreases-loop
+returns : tie.Need-returns-then-fault-ne0 invariant-loop decreases-loop
 returns c =
     let judge = c.before.before.before in
-    judged-stops _ _ _ _ _ judge.before.loop-test.true judge.path.ensures c.if1.true ∙ judge.before.before.loop.invariant.1
+    judged-stops _ _ _ _ _ judge.before.loop-left-test.true judge.path-judged.ensures c.if-fault-ne0.true ∙ judge.before.before.loop-left.invariant.1
 
-loop-again : tie.Need-loop-preserved invariant-loop decreases-loop
+loop-again : tie.Need-loop-left-preserved invariant-loop decreases-loop
 loop-again c =
     let judge = c.before.before.before in
-    let l = judge.before.before.loop in (
-      judged-inside (path_fields_fault _) (path_end _) l.left l.here judge.path.ensures c.if1.false (path_inside _ _),
-      judged-goes-on _ _ _ _ judge.path.ensures c.if1.false _ (omega (arith, judge.before.loop-test)) ∙ l.invariant.1,
+    let l = judge.before.before.loop-left in (
+      judged-inside (path_fields_fault _) (path_end _) l.left l.here judge.path-judged.ensures c.if-fault-ne0.false (path_inside _ _),
+      judged-goes-on _ _ _ _ judge.path-judged.ensures c.if-fault-ne0.false _ (omega (arith, judge.before.loop-left-test)) ∙ l.invariant.1,
     )
 
-returns-2 : tie.Need-returns-2 invariant-loop decreases-loop
-returns-2 c = let l = c.before.before.loop in judged-done _ _ _ _ (omega arith) c.kept.ensures ∙ l.invariant.1
+returns-2 : tie.Need-returns invariant-loop decreases-loop
+returns-2 c = let l = c.before.before.loop-left in judged-done _ _ _ _ (omega arith) c.kept.ensures ∙ l.invariant.1
 
-pub paths-spec : {M : Type 1} → statement M
-paths-spec =
+pub paths_spec : {M : Type 1} → statement M
+paths_spec =
     tie.close
     (tie.spec
     invariant-loop

@@ -9,53 +9,53 @@ use Rattle.judging.specs.Laws.Repeating.{Passed, passed_first, passed_none, pass
 use Rattle.judging.proofs.repeated.Statement.{statement}
 use Rattle.judging.proofs.repeated.Tie as tie
 
-abbrev invariant-loop : tie.invariant-loop
+abbrev invariant-loop : tie.invariant-loop-i
 invariant-loop catalogue m at index₀ here₀ i₀ index here i = (i ≤ m) × (length index ≡ length index₀) × Passed catalogue m at index here i
 
-abbrev decreases-loop : tie.decreases-loop
+abbrev decreases-loop : tie.decreases-loop-i
 decreases-loop catalogue m at index₀ here₀ i₀ index here i = m - i
 
-loop-holds : tie.Need-loop-init invariant-loop decreases-loop
+loop-holds : tie.Need-loop-i-init invariant-loop decreases-loop
 loop-holds c = (omega arith, refl, passed_first _ _ _ _)
 
-abbrev start : tie.At-loop invariant-loop decreases-loop → tie.Start invariant-loop decreases-loop
+abbrev start : tie.At-loop-i invariant-loop decreases-loop → tie.Start invariant-loop decreases-loop
 start l = l.before.before.before
 
 -- the icon at hand lies inside, and a word can hold its offset
-module _ (c : tie.In-loop invariant-loop decreases-loop) where
+module _ (c : tie.In-loop-i invariant-loop decreases-loop) where
   inside : let l = c.before in
-      let a = (start l).args in icon_end a.catalogue.now l.loop.here ≤ length a.catalogue.now
-  inside = passed-inside _ _ _ c.before.loop.invariant.2 c.loop-test.true (start c.before).pre.0
+      let a = (start l).args in icon_end a.catalogue.now l.loop-i.here ≤ length a.catalogue.now
+  inside = passed-inside _ _ _ c.before.loop-i.invariant.2 c.loop-i-test.true (start c.before).pre.0
 
-  small : c.before.loop.here < 2 ^ 32
-  small = passed-small _ _ _ c.before.loop.invariant.2 c.loop-test.true (start c.before).pre.0
+  small : c.before.loop-i.here < 2 ^ 32
+  small = passed-small _ _ _ c.before.loop-i.invariant.2 c.loop-i-test.true (start c.before).pre.0
 
 -- it was asked for its name
 module _ (c : tie.After-met invariant-loop decreases-loop) where
-  abbrev turn : tie.In-loop invariant-loop decreases-loop
+  abbrev turn : tie.In-loop-i invariant-loop decreases-loop
   turn = c.before.before
 
   abbrev passed : let l = turn.before in
-      let a = (start l).args in Passed a.catalogue.now a.m a.at l.loop.index l.loop.here l.loop.i
-  passed = turn.before.loop.inv.2
+      let a = (start l).args in Passed a.catalogue.now a.m a.at l.loop-i.index l.loop-i.here l.loop-i.i
+  passed = turn.before.loop-i.inv.2
 
-returns : tie.Need-returns invariant-loop decreases-loop
+returns : tie.Need-returns-then-met invariant-loop decreases-loop
 returns c =
     let met = c.before.before.before in
     let p = passed met in
-    passed-repeat _ _ _ p (turn met).loop-test.true (met.met.ensures p.before p.known) c.if1.true
+    passed-repeat _ _ _ p (turn met).loop-i-test.true (met.met.ensures p.before p.known) c.if-met.true
 
-loop-again : tie.Need-loop-preserved invariant-loop decreases-loop
+loop-again : tie.Need-loop-i-preserved invariant-loop decreases-loop
 loop-again c =
     let met = c.before.before.before.before in
     let p = passed met in
-    (omega arith, omega arith, passed_on _ _ _ p (turn met).loop-test.true (met.met.ensures p.before p.known) c.before.if1.false c.icon-end.ensures)
+    (omega arith, omega arith, passed_on _ _ _ p (turn met).loop-i-test.true (met.met.ensures p.before p.known) c.before.if-met.false c.icon_end-here.ensures)
 
-returns-2 : tie.Need-returns-2 invariant-loop decreases-loop
-returns-2 c = passed_none _ _ _ c.before.loop.invariant.2 c.loop-test.false
+returns-2 : tie.Need-returns invariant-loop decreases-loop
+returns-2 c = passed_none _ _ _ c.before.loop-i.invariant.2 c.loop-i-test.false
 
-pub repeated-spec : {M : Type 1} → statement M
-repeated-spec =
+pub repeated_spec : {M : Type 1} → statement M
+repeated_spec =
     tie.close
     (tie.spec
     invariant-loop

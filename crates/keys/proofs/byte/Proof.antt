@@ -5,8 +5,8 @@ use lib.ListN.{get_or-eq_default}
 use Rattle.keys.proofs.byte.Statement.{statement}
 use Rattle.keys.proofs.byte.Tie as tie
 
-returns-2 : tie.Need-returns-2
-returns-2 c = sym (get_or-eq_default c.before.args.s.now 0 c.if1.false)
+returns-2 : tie.Need-returns-else-i-s
+returns-2 c = sym (get_or-eq_default c.before.args.s.now 0 c.if-i-s.false)
 
-pub byte-spec : {M : Type 1} → statement M
-byte-spec = tie.close (tie.spec (λ c. search rules) (λ c. search rules) returns-2)
+pub byte_spec : {M : Type 1} → statement M
+byte_spec = tie.close (tie.spec (λ c. search rules) (λ c. search rules) returns-2)

@@ -6,29 +6,29 @@ use Rattle.keys.specs.Laws.{order-itself}
 use Rattle.keys.proofs.compare.Statement.{statement}
 use Rattle.keys.proofs.compare.Tie as tie
 
-returns : tie.Need-returns
-returns c = rw c.if1.true (sym (order-itself _))
+returns : tie.Need-returns-then-a-b
+returns c = rw c.if-a-b.true (sym (order-itself _))
 
-returns-2 : tie.Need-returns-2
+returns-2 : tie.Need-returns-in-Ended
 returns-2 c =
     let parts = c.before in
-    rw parts.before.before.enum_told.given.1 (c.compare-strings.ensures ∙ rw (parts.before.from.ensures, parts.from2.ensures))
+    rw parts.before.before.enum_told-1.given.1 (c.compare_strings.ensures ∙ rw (parts.before.from.ensures, parts.from-in-Ended.ensures))
 
-returns-3 : tie.Need-returns-3
+returns-3 : tie.Need-returns-in-Counted
 returns-3 c =
     let names = c.before in
-    rw names.before.before.enum-told2.given.1 (c.compare-bytes.ensures ∙ rw (names.before.name-after.ensures, names.name-after2.ensures))
+    rw names.before.before.enum_told-in-Counted-1.given.1 (c.compare_bytes.ensures ∙ rw (names.before.name_after.ensures, names.name_after-in-Counted.ensures))
 
-returns-4 : tie.Need-returns-4
-returns-4 c = rw c.before.enum-told3.given.1 c.compare-numbers.ensures
+returns-4 : tie.Need-returns-in-Offset
+returns-4 c = rw c.before.enum_told-in-Offset-1.given.1 c.compare_numbers.ensures
 
-returns-5 : tie.Need-returns-5
+returns-5 : tie.Need-returns-in-Images
 returns-5 c =
     let lists = c.before in
-    rw lists.before.before.enum-told4.given.1 (c.compare-bytes2.ensures ∙ rw (lists.before.list-from.ensures, lists.list-from2.ensures))
+    rw lists.before.before.enum_told-in-Images-1.given.1 (c.compare_bytes-in-Images.ensures ∙ rw (lists.before.list_from.ensures, lists.list_from-in-Images.ensures))
 
-pub compare-spec : {M : Type 1} → statement M
-compare-spec =
+pub compare_spec : {M : Type 1} → statement M
+compare_spec =
     tie.close
     (tie.spec
     returns

@@ -1,6 +1,6 @@
 -- `keys::compare_bytes` meets its contract: what is left of both compares as the whole does.
 use Prim.Native.Nat.{ℕ, ◌+◌, ◌-◌, ◌≤◌, ◌<◌}
-use mathlib.Core.Path.{◌≡◌, sym, ◌∙◌}
+use mathlib.Core.Path.{◌≡◌, refl, sym, ◌∙◌}
 use mathlib.Core.List.{List}
 use native.Mathlib.Numerals.{add-one}
 use native.Mathlib.Omega.{arith}
@@ -13,10 +13,10 @@ use Rattle.keys.specs.Laws.{both_end, end-less, end-greater, first-less, first-g
 use Rattle.keys.proofs.compare_bytes.Statement.{statement}
 use Rattle.keys.proofs.compare_bytes.Tie as tie
 
-abbrev invariant-loop : tie.invariant-loop
+abbrev invariant-loop : tie.invariant-loop-i
 invariant-loop a b i₀ i = (i ≤ length a) × (i ≤ length b) × (order (drop i a) (drop i b) ≡ order a b)
 
-abbrev decreases-loop : tie.decreases-loop
+abbrev decreases-loop : tie.decreases-loop-i
 decreases-loop a b i₀ i = length a - i
 
 -- where one has ended, or both
@@ -41,45 +41,44 @@ module _ (a b : List ℕ) (i : ℕ) (h : i < length a) (g : i < length b) where
   byte-equal : get_or a i 0 ≡ get_or b i 0 → order (drop i a) (drop i b) ≡ order (drop (i + 1) a) (drop (i + 1) b)
   byte-equal e = rw (drop-cons a i 0 h, drop-cons b i 0 g, add-one i) (first-equal _ _ _ _ e)
 
-returns : tie.Need-returns invariant-loop decreases-loop
+returns : tie.Need-returns-then-i-b invariant-loop decreases-loop
 returns c =
     let l = c.before.before in
-    sym (second-ends _ _ l.loop.i (omega arith) (omega arith)) ∙ l.loop.invariant.2
+    sym (second-ends _ _ l.loop-i.i (omega arith) (omega arith)) ∙ l.loop-i.invariant.2
 
-returns-2 : tie.Need-returns-2 invariant-loop decreases-loop
+returns-2 : tie.Need-returns-then-a-i invariant-loop decreases-loop
 returns-2 c =
     let l = c.before.before.before.before.before in
-    sym (byte-less _ _ l.loop.i (omega arith) (omega arith) c.if2.true) ∙ l.loop.invariant.2
+    sym (byte-less _ _ l.loop-i.i (omega arith) (omega arith) c.if-a-i.true) ∙ l.loop-i.invariant.2
 
-returns-3 : tie.Need-returns-3 invariant-loop decreases-loop
+returns-3 : tie.Need-returns-then-b-i invariant-loop decreases-loop
 returns-3 c =
     let l = c.before.before.before.before.before.before.before.before in
-    sym (byte-greater _ _ l.loop.i (omega arith) (omega arith) c.if3.true) ∙ l.loop.invariant.2
+    sym (byte-greater _ _ l.loop-i.i (omega arith) (omega arith) c.if-b-i.true) ∙ l.loop-i.invariant.2
 
-loop-again : tie.Need-loop-preserved invariant-loop decreases-loop
+loop-again : tie.Need-loop-i-preserved invariant-loop decreases-loop
 loop-again c =
     let l = c.before.before.before.before.before.before.before.before in
-    let a = l.before.before.before.before.args in
-    (omega arith, omega arith, sym (byte-equal a.a.now a.b.now l.loop.i (omega arith) (omega arith) (omega arith)) ∙ l.loop.invariant.2)
+    let a = l.before.args in
+    (omega arith, omega arith, sym (byte-equal a.a.now a.b.now l.loop-i.i (omega arith) (omega arith) (omega arith)) ∙ l.loop-i.invariant.2)
 
-returns-4 : tie.Need-returns-4 invariant-loop decreases-loop
+returns-4 : tie.Need-returns-then-i-b-2 invariant-loop decreases-loop
 returns-4 c =
     let l = c.before.before in
-    sym (both-ended _ _ l.loop.i (omega arith) (omega arith)) ∙ l.loop.invariant.2
+    sym (both-ended _ _ l.loop-i.i (omega arith) (omega arith)) ∙ l.loop-i.invariant.2
 
-returns-5 : tie.Need-returns-5 invariant-loop decreases-loop
+returns-5 : tie.Need-returns-else-i-b-2 invariant-loop decreases-loop
 returns-5 c =
     let l = c.before.before in
-    sym (first_ends _ _ l.loop.i (omega arith) (omega arith)) ∙ l.loop.invariant.2
+    sym (first_ends _ _ l.loop-i.i (omega arith) (omega arith)) ∙ l.loop-i.invariant.2
 
-pub compare-bytes-spec : {M : Type 1} → statement M
-compare-bytes-spec =
+pub compare_bytes_spec : {M : Type 1} → statement M
+compare_bytes_spec =
     tie.close
     (tie.spec
     invariant-loop
     decreases-loop
-    (λ c κs. search rules)
-    (λ c. c.bytes-alike.ensures)
+    (λ c. (omega arith, omega arith, refl))
     returns
     (λ c. search rules)
     (λ c. search rules)

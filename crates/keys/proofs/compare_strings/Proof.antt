@@ -1,7 +1,7 @@
 -- `keys::compare_strings` meets its contract: what is left of both strings compares as the
 -- whole does. A string stops where the byte is 0.
 use Prim.Native.Nat.{ℕ, ◌+◌, ◌-◌, ◌≤◌, ◌<◌}
-use mathlib.Core.Path.{◌≡◌, sym, ◌∙◌}
+use mathlib.Core.Path.{◌≡◌, refl, sym, ◌∙◌}
 use mathlib.Core.List.{List}
 use native.Mathlib.Decide.{ℕ_discrete}
 use native.Mathlib.Omega.{arith}
@@ -35,58 +35,57 @@ module _ (a b : List ℕ) (i : ℕ) where
       → order (string (drop i a)) (string (drop i b)) ≡ order (string (drop (i + 1) a)) (string (drop (i + 1) b))
   byte-equal e n = rw (string-goes-on a i n, string-goes-on b i (λ f. n (e ∙ f))) (first-equal _ _ _ _ e)
 
-abbrev invariant-loop : tie.invariant-loop
+abbrev invariant-loop : tie.invariant-loop-i
 invariant-loop a b i₀ i = (i ≤ length a) × (order (string (drop i a)) (string (drop i b)) ≡ order (string a) (string b))
 
-abbrev decreases-loop : tie.decreases-loop
+abbrev decreases-loop : tie.decreases-loop-i
 decreases-loop a b i₀ i = length a - i
 
-returns : tie.Need-returns invariant-loop decreases-loop
+returns : tie.Need-returns-then-x-y invariant-loop decreases-loop
 returns c =
     let l = c.before.before.before.before in
-    let a = l.before.before.before.before.args in
-    sym (byte-less a.a.now a.b.now l.loop.i (omega arith)) ∙ l.loop.invariant.1
+    let a = l.before.before.before.args in
+    sym (byte-less a.a.now a.b.now l.loop-i.i (omega arith)) ∙ l.loop-i.invariant.1
 
-returns-2 : tie.Need-returns-2 invariant-loop decreases-loop
+returns-2 : tie.Need-returns-then-y-x invariant-loop decreases-loop
 returns-2 c =
     let l = c.before.before.before.before.before in
-    let a = l.before.before.before.before.args in
-    sym (byte-greater a.a.now a.b.now l.loop.i (omega arith)) ∙ l.loop.invariant.1
+    let a = l.before.before.before.args in
+    sym (byte-greater a.a.now a.b.now l.loop-i.i (omega arith)) ∙ l.loop-i.invariant.1
 
-returns-3 : tie.Need-returns-3 invariant-loop decreases-loop
+returns-3 : tie.Need-returns-then-x-eq0 invariant-loop decreases-loop
 returns-3 c =
     let l = c.before.before.before.before.before.before in
-    let a = l.before.before.before.before.args in
-    sym (both-stop a.a.now a.b.now l.loop.i c.if3.true (omega arith)) ∙ l.loop.invariant.1
+    let a = l.before.before.before.args in
+    sym (both-stop a.a.now a.b.now l.loop-i.i c.if-x-eq0.true (omega arith)) ∙ l.loop-i.invariant.1
 
-loop-again : tie.Need-loop-preserved invariant-loop decreases-loop
+loop-again : tie.Need-loop-i-preserved invariant-loop decreases-loop
 loop-again c =
     let l = c.before.before.before.before.before.before in
-    let a = l.before.before.before.before.args in
-    (omega arith, sym (byte-equal a.a.now a.b.now l.loop.i (omega arith) c.if3.false) ∙ l.loop.invariant.1)
+    let a = l.before.before.before.args in
+    (omega arith, sym (byte-equal a.a.now a.b.now l.loop-i.i (omega arith) c.if-x-eq0.false) ∙ l.loop-i.invariant.1)
 
-returns-4 : tie.Need-returns-4 invariant-loop decreases-loop
+returns-4 : tie.Need-returns-then-byte-eq0 invariant-loop decreases-loop
 returns-4 c =
     let l = c.before.before.before in
-    let a = l.before.before.before.before.args in
-    let over = get_or-eq_default a.a.now 0 c.before.before.loop-test.false in
-    sym (both-stop a.a.now a.b.now l.loop.i over (omega arith)) ∙ l.loop.invariant.1
+    let a = l.before.before.before.args in
+    let over = get_or-eq_default a.a.now 0 c.before.before.loop-i-test.false in
+    sym (both-stop a.a.now a.b.now l.loop-i.i over (omega arith)) ∙ l.loop-i.invariant.1
 
-returns-5 : tie.Need-returns-5 invariant-loop decreases-loop
+returns-5 : tie.Need-returns-else-byte-eq0 invariant-loop decreases-loop
 returns-5 c =
     let l = c.before.before.before in
-    let a = l.before.before.before.before.args in
-    let over = get_or-eq_default a.a.now 0 c.before.before.loop-test.false in
-    sym (byte-less a.a.now a.b.now l.loop.i (omega arith)) ∙ l.loop.invariant.1
+    let a = l.before.before.before.args in
+    let over = get_or-eq_default a.a.now 0 c.before.before.loop-i-test.false in
+    sym (byte-less a.a.now a.b.now l.loop-i.i (omega arith)) ∙ l.loop-i.invariant.1
 
-pub compare-strings-spec : {M : Type 1} → statement M
-compare-strings-spec =
+pub compare_strings_spec : {M : Type 1} → statement M
+compare_strings_spec =
     tie.close
     (tie.spec
     invariant-loop
     decreases-loop
-    (λ c κs. search rules)
-    (λ c. c.strings-alike.ensures)
+    (λ c. (omega arith, refl))
     (λ c. search rules)
     (λ c κs. search rules)
     returns

@@ -7,15 +7,15 @@ use lib.Seq.{length-take-le, take_all}
 use Rattle.keys.proofs.front.Statement.{statement}
 use Rattle.keys.proofs.front.Tie as tie
 
-slice-aggregate-result : tie.Need-slice-aggregate-result
+slice-aggregate-result : tie.Need-slice_bounds-result-end
 slice-aggregate-result c =
     let a = c.before.before.args in
-    sym (length-take-le a.n a.s.now c.before.if1.true)
+    sym (length-take-le a.n a.s.now c.before.if-n-s.true)
 
-returns-2 : tie.Need-returns-2
+returns-2 : tie.Need-returns-else-n-s
 returns-2 c =
     let a = c.before.args in
     sym (take_all a.n a.s.now (omega arith))
 
-pub front-spec : {M : Type 1} → statement M
-front-spec = tie.close (tie.spec slice-aggregate-result (λ c. search rules) returns-2)
+pub front_spec : {M : Type 1} → statement M
+front_spec = tie.close (tie.spec slice-aggregate-result (λ c. search rules) returns-2)

@@ -6,10 +6,10 @@ use Rattle.keys.proofs.name_after.Statement.{statement}
 use Rattle.keys.proofs.name_after.Tie as tie
 
 returns : tie.Need-returns
-returns c = c.front.ensures ∙ rw (c.before.from.ensures, c.before.before.byte.ensures, be-byte)
+returns c = c.front.ensures ∙ rw (c.before.from.ensures, c.before.before.byte-n.ensures, be-byte)
 
-pub name-after-spec : {M : Type 1} → statement M
-name-after-spec =
+pub name_after_spec : {M : Type 1} → statement M
+name_after_spec =
     tie.close
     (tie.spec
     (λ c κs. search rules)

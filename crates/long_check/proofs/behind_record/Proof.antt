@@ -5,14 +5,14 @@ use borrow.Author.Rules.{rules}
 use Rattle.long_check.proofs.behind_record.Statement.{statement}
 use Rattle.long_check.proofs.behind_record.Tie as tie
 
-pub behind-record-spec : {M : Type 1} → statement M
-behind-record-spec =
+pub behind_record_spec : {M : Type 1} → statement M
+behind_record_spec =
     tie.close
     (tie.spec
     (λ c. omega (arith, c.before.requires))
     (λ c κs. omega (arith, c.before.requires))
     (λ c. search rules)
-    (λ c κs. omega (arith, c.before.before.requires, c.u32-at.ensures))
+    (λ c κs. omega (arith, c.before.before.requires, c.u32_at-at.ensures))
     (λ c. omega (arith, c.before.before.before.requires))
-    (λ c κs. rw (c.u32-at2.ensures, c.before.u32-at.ensures) c.before.before.before.requires.1)
-    (λ c. c.behind.ensures ∙ rw (c.before.u32-at2.ensures, c.before.before.u32-at.ensures)))
+    (λ c κs. rw (c.u32_at-count.ensures, c.before.u32_at-at.ensures) c.before.before.before.requires.1)
+    (λ c. c.behind.ensures ∙ rw (c.before.u32_at-count.ensures, c.before.before.u32_at-at.ensures)))

@@ -6,11 +6,11 @@ use Rattle.long_check.specs.Check.{sound_records}
 use Rattle.long_check.proofs.sound_records.Statement.{statement}
 use Rattle.long_check.proofs.sound_records.Tie as tie
 
-pub sound-records-spec : {M : Type 1} → statement M
+pub sound_records_spec : {M : Type 1} → statement M
 unfolding sound_records
-sound-records-spec =
+sound_records_spec =
     tie.close
     (tie.spec
     (λ c. search rules)
-    (λ c. omega (arith, c.if1.true, c.before.before.unsound.ensures))
-    (λ c. omega (arith, c.before.if1.false, c.before.before.before.unsound.ensures)))
+    (λ c. omega (arith, c.if-short-broken.true, c.before.before.unsound-broken.ensures))
+    (λ c. omega (arith, c.before.if-short-broken.false, c.before.before.before.unsound-broken.ensures)))

@@ -9,10 +9,10 @@ use Rattle.marks.specs.Laws.{one_shifted, marks-set, marks-none}
 use Rattle.marks.proofs.mark.Statement.{statement}
 use Rattle.marks.proofs.mark.Tie as tie
 
-returns : tie.Need-returns
+returns : tie.Need-returns-then-word-marks
 returns c = let a = c.before.before.args in marks-set _ _ (ap (bit_or (get_or a.marks.now (a.i / 32) 0)) (one_shifted (a.i % 32) (omega arith))) (omega arith)
 
-returns-2 : tie.Need-returns-2
+returns-2 : tie.Need-returns-else-word-marks
 returns-2 c = marks-none _ _ (omega arith)
 
 pub mark_spec : {M : Type 1} → statement M

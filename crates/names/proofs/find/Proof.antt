@@ -11,38 +11,38 @@ use Rattle.names.specs.Laws.Between.{between-all, after-middle, before-middle}
 use Rattle.names.proofs.find.Statement.{statement}
 use Rattle.names.proofs.find.Tie as tie
 
-abbrev invariant-loop : tie.invariant-loop
+abbrev invariant-loop : tie.invariant-loop-low
 invariant-loop s kind index n at low₀ high₀ low high =
     (low ≤ high) × (high ≤ n) × (Rising (key_at kind s) index n → Between (key_at kind s) index n (key_at kind s at) low high)
 
-abbrev decreases-loop : tie.decreases-loop
+abbrev decreases-loop : tie.decreases-loop-low
 decreases-loop s kind index n at low₀ high₀ low high = high - low
 
-abbrev middle : tie.At-loop invariant-loop decreases-loop → ℕ
-middle l = l.loop.low + (l.loop.high - l.loop.low) / 2
+abbrev middle : tie.At-loop-low invariant-loop decreases-loop → ℕ
+middle l = l.loop-low.low + (l.loop-low.high - l.loop-low.low) / 2
 
-loop-again : tie.Need-loop-preserved invariant-loop decreases-loop
+loop-again : tie.Need-loop-low-preserved-in-Less invariant-loop decreases-loop
 loop-again c =
     let compared = c.before.before in
     let l = compared.before.before.before in
     let inside : middle l < l.before.before.before.args.n = omega arith in
-    (omega arith, omega arith, λ rising. after-middle _ _ _ _ rising (l.loop.invariant.2 rising) (middle l) inside compared.compare.ensures c.enum_told.given.1)
+    (omega arith, omega arith, λ rising. after-middle _ _ _ _ rising (l.loop-low.invariant.2 rising) (middle l) inside compared.compare-order.ensures c.enum_told-1.given.1)
 
-returns : tie.Need-returns invariant-loop decreases-loop
-returns c = (omega arith, λ rising. order-equal _ _ (sym c.before.before.compare.ensures ∙ c.enum-told2.given.1))
+returns : tie.Need-returns-in-Equal invariant-loop decreases-loop
+returns c = (omega arith, λ rising. order-equal _ _ (sym c.before.before.compare-order.ensures ∙ c.enum_told-in-Equal-1.given.1))
 
-loop-again-2 : tie.Need-loop-preserved-2 invariant-loop decreases-loop
+loop-again-2 : tie.Need-loop-low-preserved invariant-loop decreases-loop
 loop-again-2 c =
     let compared = c.before.before in
     let l = compared.before.before.before in
     let inside : middle l < l.before.before.before.args.n = omega arith in
-    (omega arith, omega arith, λ rising. before-middle _ _ _ _ rising (l.loop.invariant.2 rising) (middle l) inside compared.compare.ensures c.enum-told3.given.1)
+    (omega arith, omega arith, λ rising. before-middle _ _ _ _ rising (l.loop-low.invariant.2 rising) (middle l) inside compared.compare-order.ensures c.enum_told-in-Greater-1.given.1)
 
-returns-2 : tie.Need-returns-2 invariant-loop decreases-loop
+returns-2 : tie.Need-returns invariant-loop decreases-loop
 returns-2 c =
     let l = c.before in
-    let met : l.loop.high ≡ l.loop.low = omega arith in
-    (omega arith, λ rising. rw met at (l.loop.invariant.2 rising))
+    let met : l.loop-low.high ≡ l.loop-low.low = omega arith in
+    (omega arith, λ rising. rw met at (l.loop-low.invariant.2 rising))
 
 pub find_spec : {M : Type 1} → statement M
 find_spec =

@@ -6,18 +6,18 @@ use Rattle.names.specs.Laws.Index.{found-met, missing-not-met}
 use Rattle.names.proofs.holds.Statement.{statement}
 use Rattle.names.proofs.holds.Tie as tie
 
-returns : tie.Need-returns
+returns : tie.Need-returns-in-Found
 returns c = λ before known.
     let found = c.before.before in
-    let told : found.find.result ≡ Found c.enum_told.given.0.0 = c.enum_told.given.1 in
-    sym (found-met known (rw told at found.find.ensures.0) (rw told at (found.find.ensures.1 known.rising)))
+    let told : found.find-spot.result ≡ Found c.enum_told-1.given.0.0 = c.enum_told-1.given.1 in
+    sym (found-met known (rw told at found.find-spot.ensures.0) (rw told at (found.find-spot.ensures.1 known.rising)))
 
-returns-2 : tie.Need-returns-2
+returns-2 : tie.Need-returns-in-Missing
 returns-2 c = λ before known.
     let found = c.before.before in
-    let told : found.find.result ≡ Missing c.enum-told2.given.0.0 = c.enum-told2.given.1 in
-    sym (missing-not-met known (rw told at (found.find.ensures.1 known.rising)))
+    let told : found.find-spot.result ≡ Missing c.enum_told-in-Missing-1.given.0.0 = c.enum_told-in-Missing-1.given.1 in
+    sym (missing-not-met known (rw told at (found.find-spot.ensures.1 known.rising)))
 
-pub holds-spec : {M : Type 1} → statement M
-holds-spec =
+pub holds_spec : {M : Type 1} → statement M
+holds_spec =
     tie.close (tie.spec (λ c κs. search rules) (λ c. search rules) (λ c. search rules) returns returns-2)

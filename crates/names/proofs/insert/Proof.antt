@@ -41,25 +41,25 @@ module _ (old new : List ℕ) (n hole : ℕ) (opened : Opened old new n hole) (i
     above = λ k h g. get_or-set_other new hole (k + 1) _ 0 (omega arith) ∙ opened.above k h g;
   }
 
-abbrev invariant-loop : tie.invariant-loop
+abbrev invariant-loop : tie.invariant-loop-hole
 invariant-loop index₀ n i at hole₀ index hole = (i ≤ hole) × (hole ≤ n) × (length index ≡ length index₀) × Opened index₀ index n hole
 
-abbrev decreases-loop : tie.decreases-loop
+abbrev decreases-loop : tie.decreases-loop-hole
 decreases-loop index₀ n i at hole₀ index hole = hole
 
-loop-again : tie.Need-loop-preserved invariant-loop decreases-loop
+loop-again : tie.Need-loop-hole-preserved invariant-loop decreases-loop
 loop-again c =
     let l = c.before.before in
-    (omega arith, omega arith, simp length-set (omega arith), opened-more _ l.loop.index _ l.loop.hole l.loop.invariant.3 (omega arith) (omega arith))
+    (omega arith, omega arith, simp length-set (omega arith), opened-more _ l.loop-hole.index _ l.loop-hole.hole l.loop-hole.invariant.3 (omega arith) (omega arith))
 
 returns : tie.Need-returns invariant-loop decreases-loop
 returns c =
     let l = c.before in
-    let e : l.loop.hole ≡ l.before.args.i = omega arith in
-    rw e at (opened-filled _ l.loop.index _ l.loop.hole l.loop.invariant.3 (omega arith) l.before.args.at)
+    let e : l.loop-hole.hole ≡ l.before.args.i = omega arith in
+    rw e at (opened-filled _ l.loop-hole.index _ l.loop-hole.hole l.loop-hole.invariant.3 (omega arith) l.before.args.at)
 
-pub insert-spec : {M : Type 1} → statement M
-insert-spec =
+pub insert_spec : {M : Type 1} → statement M
+insert_spec =
     tie.close
     (tie.spec
     invariant-loop

@@ -5,14 +5,14 @@ use Rattle.format.specs.Laws.Faults.{same_number}
 use Rattle.notes.proofs.again.Statement.{statement}
 use Rattle.notes.proofs.again.Tie as tie
 
-returns : tie.Need-returns
+returns : tie.Need-returns-then-u32_at-last
 returns c =
     let read = c.before.before in
-    let kept = read.before.before.requires.1 _ (sym read.u32-at.ensures ∙ c.before.if1.true) in
+    let kept = read.before.before.requires.1 _ (sym read.u32_at.ensures ∙ c.before.if-u32_at-last.true) in
     record { kept = λ z. kept; broken = λ some. absurd (some (same_number c.none.ensures)) }
 
-returns-2 : tie.Need-returns-2
-returns-2 c = record { kept = λ z. sym (same_number c.image-data.ensures) ∙ z; broken = λ some. c.image-data.ensures }
+returns-2 : tie.Need-returns-else-u32_at-last
+returns-2 c = record { kept = λ z. sym (same_number c.image_data.ensures) ∙ z; broken = λ some. c.image_data.ensures }
 
 pub again_spec : {M : Type 1} → statement M
 again_spec =

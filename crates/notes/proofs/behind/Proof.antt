@@ -12,45 +12,45 @@ use Rattle.notes.specs.Again.{KeptBehind}
 use Rattle.notes.proofs.behind.Statement.{statement}
 use Rattle.notes.proofs.behind.Tie as tie
 
-abbrev invariant-loop : tie.invariant-loop
+abbrev invariant-loop : tie.invariant-loop-left
 invariant-loop cache count at left₀ here₀ last₀ left here last =
     (here + 8 * left ≤ length cache) × (notes_fault left cache here ≡ notes_fault count cache at) × KeptBehind cache last
 
-abbrev decreases-loop : tie.decreases-loop
+abbrev decreases-loop : tie.decreases-loop-left
 decreases-loop cache count at left₀ here₀ last₀ left here last = left
 
-loop-holds : tie.Need-loop-init invariant-loop decreases-loop
+loop-holds : tie.Need-loop-left-init invariant-loop decreases-loop
 unfolding image_data_fault
 loop-holds c = (c.before.requires, refl, λ f e. same_number (part-absent _ e))
 
-returns : tie.Need-returns invariant-loop decreases-loop
+returns : tie.Need-returns-then-judged-ne0 invariant-loop decreases-loop
 returns c =
     let judged = c.before.before in
     let l = judged.before.before in
-    let told = judged.again.ensures.broken c.if1.true in
-    told ∙ sym (first-stop _ _ _ _ (omega arith) (rw told at c.if1.true)) ∙ l.loop.invariant.1
+    let told = judged.again-judged.ensures.broken c.if-judged-ne0.true in
+    told ∙ sym (first-stop _ _ _ _ (omega arith) (rw told at c.if-judged-ne0.true)) ∙ l.loop-left.invariant.1
 
-loop-again : tie.Need-loop-preserved invariant-loop decreases-loop
+loop-again : tie.Need-loop-left-preserved invariant-loop decreases-loop
 loop-again c =
     let else = c.before in
     let judged = else.before.before in
     let l = judged.before.before in
     let cache = l.before.before.args.cache.now in
-    let kept = judged.again.ensures.kept else.if1.false in (
+    let kept = judged.again-judged.ensures.kept else.if-judged-ne0.false in (
       omega arith,
-      sym (first-go-on _ _ _ _ (l.loop.left - 1) (omega arith) kept) ∙ l.loop.invariant.1,
-      λ f e. same-data cache _ f (e ∙ c.u32-at.ensures) kept,
+      sym (first-go-on _ _ _ _ (l.loop-left.left - 1) (omega arith) kept) ∙ l.loop-left.invariant.1,
+      λ f e. same-data cache _ f (e ∙ c.u32_at-last.ensures) kept,
     )
 
-pub behind-spec : {M : Type 1} → statement M
-behind-spec =
+pub behind_spec : {M : Type 1} → statement M
+behind_spec =
     tie.close
     (tie.spec
     invariant-loop
     decreases-loop
     loop-holds
     (λ c. omega arith)
-    (λ c κs. (omega arith, c.before.loop.invariant.2))
+    (λ c κs. (omega arith, c.before.loop-left.invariant.2))
     returns
     (λ c. omega arith)
     (λ c κs. omega arith)
@@ -59,4 +59,4 @@ behind-spec =
     (λ c. omega arith)
     loop-again
     (λ c κs. search rules)
-    (λ c. c.none.ensures ∙ sym (first-end _ _ _ _ (omega arith)) ∙ c.before.before.loop.invariant.1))
+    (λ c. c.none.ensures ∙ sym (first-end _ _ _ _ (omega arith)) ∙ c.before.before.loop-left.invariant.1))

@@ -7,20 +7,20 @@ use Rattle.format.specs.Laws.Faults.{or_else-first, or_else-next}
 use Rattle.notes.proofs.display_name.Statement.{statement}
 use Rattle.notes.proofs.display_name.Tie as tie
 
-returns : tie.Need-returns
+returns : tie.Need-returns-then-language-ne0
 unfolding display_name_fault
 returns c =
-    let judged = c.before.before.note.ensures in
-    judged ∙ sym (or_else-first _ _ (rw judged at c.if1.true))
+    let judged = c.before.before.note-language.ensures in
+    judged ∙ sym (or_else-first _ _ (rw judged at c.if-language-ne0.true))
 
-returns-2 : tie.Need-returns-2
+returns-2 : tie.Need-returns
 unfolding display_name_fault
 returns-2 c =
-    let judged = c.before.before.before.note.ensures in
-    c.note2.ensures ∙ sym (or_else-next _ _ (rw judged at c.before.if1.false))
+    let judged = c.before.before.before.note-language.ensures in
+    c.note.ensures ∙ sym (or_else-next _ _ (rw judged at c.before.if-language-ne0.false))
 
-pub display-name-spec : {M : Type 1} → statement M
-display-name-spec =
+pub display_name_spec : {M : Type 1} → statement M
+display_name_spec =
     tie.close
     (tie.spec
     (λ c κs. omega (arith, c.before.requires))

@@ -10,28 +10,28 @@ use Rattle.format.specs.Laws.Faults.{first-end, first-stop, first-go-on}
 use Rattle.notes.proofs.display_names.Statement.{statement}
 use Rattle.notes.proofs.display_names.Tie as tie
 
-abbrev invariant-loop : tie.invariant-loop
+abbrev invariant-loop : tie.invariant-loop-left
 invariant-loop cache count at left₀ here₀ left here =
     (here + 8 * left ≤ length cache)
     × (first_fault (display_name_fault cache) (step_on 8) left here ≡ first_fault (display_name_fault cache) (step_on 8) count at)
 
-abbrev decreases-loop : tie.decreases-loop
+abbrev decreases-loop : tie.decreases-loop-left
 decreases-loop cache count at left₀ here₀ left here = left
 
-returns : tie.Need-returns invariant-loop decreases-loop
+returns : tie.Need-returns-then-judged-ne0 invariant-loop decreases-loop
 returns c =
     let l = c.before.before.before.before in
-    let judged = c.before.before.display-name.ensures in
-    judged ∙ sym (first-stop _ _ _ _ (omega arith) (rw judged at c.if1.true)) ∙ l.loop.invariant.1
+    let judged = c.before.before.display_name-judged.ensures in
+    judged ∙ sym (first-stop _ _ _ _ (omega arith) (rw judged at c.if-judged-ne0.true)) ∙ l.loop-left.invariant.1
 
-loop-again : tie.Need-loop-preserved invariant-loop decreases-loop
+loop-again : tie.Need-loop-left-preserved invariant-loop decreases-loop
 loop-again c =
     let l = c.before.before.before.before in
-    let judged = c.before.before.display-name.ensures in
-    (omega arith, sym (first-go-on _ _ _ _ (l.loop.left - 1) (omega arith) (rw judged at c.if1.false)) ∙ l.loop.invariant.1)
+    let judged = c.before.before.display_name-judged.ensures in
+    (omega arith, sym (first-go-on _ _ _ _ (l.loop-left.left - 1) (omega arith) (rw judged at c.if-judged-ne0.false)) ∙ l.loop-left.invariant.1)
 
-pub display-names-spec : {M : Type 1} → statement M
-display-names-spec =
+pub display_names_spec : {M : Type 1} → statement M
+display_names_spec =
     tie.close
     (tie.spec
     invariant-loop
@@ -44,4 +44,4 @@ display-names-spec =
     (λ c. omega arith)
     loop-again
     (λ c κs. search rules)
-    (λ c. c.none.ensures ∙ sym (first-end _ _ _ _ (omega arith)) ∙ c.before.before.loop.invariant.1))
+    (λ c. c.none.ensures ∙ sym (first-end _ _ _ _ (omega arith)) ∙ c.before.before.loop-left.invariant.1))

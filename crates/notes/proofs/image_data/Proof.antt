@@ -14,49 +14,49 @@ use Rattle.notes.proofs.image_data.Statement.{statement}
 use Rattle.notes.proofs.image_data.Tie as tie
 
 -- where the field leads
-leads : (c : tie.After-u32-at) → let a = c.before.before.args in c.u32-at.result ≡ be 4 a.cache.now a.field
-leads c = c.u32-at.ensures
+leads : (c : tie.After-u32_at-data) → let a = c.before.before.args in c.u32_at-data.result ≡ be 4 a.cache.now a.field
+leads c = c.u32_at-data.ensures
 
-real : (c : tie.Else1) → let a = c.before.before.before.args in be 4 a.cache.now a.field ≡ 0 → ⊥
-real c z = c.if1.false (leads c.before ∙ z)
+real : (c : tie.Else-data-eq0) → let a = c.before.before.before.args in be 4 a.cache.now a.field ≡ 0 → ⊥
+real c z = c.if-data-eq0.false (leads c.before ∙ z)
 
 -- the image data keeps rule 22, and its parts are judged
-judged : (c : tie.Else2)
+judged : (c : tie.Else-cache-data)
     → let a = c.before.before.before.before.args in
-    let d = c.before.before.u32-at.result in image_data_fault a.cache.now a.field ≡ (pixel_data_fault a.cache.now d or_else meta_data_fault a.cache.now (d + 4))
+    let d = c.before.before.u32_at-data.result in image_data_fault a.cache.now a.field ≡ (pixel_data_fault a.cache.now d or_else meta_data_fault a.cache.now (d + 4))
 unfolding image_data_fault
 judged c =
     let e = c.before in
     let a = e.before.before.before.args in
-    let inside = le-leb (be 4 a.cache.now a.field + 8) (length a.cache.now) (omega (arith, leads e.before, c.if2.false)) in
+    let inside = le-leb (be 4 a.cache.now a.field + 8) (length a.cache.now) (omega (arith, leads e.before, c.if-cache-data.false)) in
     rw (leads e.before) (part-inside (real e) _ _ _ inside)
 
-returns : tie.Need-returns
+returns : tie.Need-returns-then-data-eq0
 unfolding image_data_fault
-returns c = c.none.ensures ∙ sym (part-absent _ (sym (leads c.before.before) ∙ c.before.if1.true))
+returns c = c.none.ensures ∙ sym (part-absent _ (sym (leads c.before.before) ∙ c.before.if-data-eq0.true))
 
-returns-2 : tie.Need-returns-2
+returns-2 : tie.Need-returns-then-cache-data
 unfolding image_data_fault
 returns-2 c =
     let e = c.before.before in
     let a = e.before.before.before.args in
-    let outside = lt-leb (be 4 a.cache.now a.field + 8) (length a.cache.now) (omega (arith, leads e.before, c.before.if2.true)) in
+    let outside = lt-leb (be 4 a.cache.now a.field + 8) (length a.cache.now) (omega (arith, leads e.before, c.before.if-cache-data.true)) in
     c.broken.ensures ∙ sym (part-outside (real e) _ _ _ outside)
 
-returns-3 : tie.Need-returns-3
+returns-3 : tie.Need-returns-then-pixels-ne0
 returns-3 c =
     let pixels = c.before.before in
-    let first = pixels.pixel-data.ensures in
-    first ∙ sym (judged pixels.before ∙ or_else-first _ _ (rw first at c.if3.true))
+    let first = pixels.pixel_data-pixels.ensures in
+    first ∙ sym (judged pixels.before ∙ or_else-first _ _ (rw first at c.if-pixels-ne0.true))
 
-returns-4 : tie.Need-returns-4
+returns-4 : tie.Need-returns
 returns-4 c =
     let pixels = c.before.before.before in
-    let first = pixels.pixel-data.ensures in
-    c.meta-data.ensures ∙ sym (judged pixels.before ∙ or_else-next _ _ (rw first at c.before.if3.false))
+    let first = pixels.pixel_data-pixels.ensures in
+    c.meta_data.ensures ∙ sym (judged pixels.before ∙ or_else-next _ _ (rw first at c.before.if-pixels-ne0.false))
 
-pub image-data-spec : {M : Type 1} → statement M
-image-data-spec =
+pub image_data_spec : {M : Type 1} → statement M
+image_data_spec =
     tie.close
     (tie.spec
     (λ c κs. search rules)
@@ -66,8 +66,8 @@ image-data-spec =
     (λ c. search rules)
     (λ c κs. search rules)
     returns-2
-    (λ c κs. omega (arith, c.if2.false))
+    (λ c κs. omega (arith, c.if-cache-data.false))
     returns-3
     (λ c. search rules)
-    (λ c κs. omega (arith, c.before.before.before.if2.false))
+    (λ c κs. omega (arith, c.before.before.before.if-cache-data.false))
     returns-4)

@@ -8,24 +8,24 @@ use Rattle.strings.proofs.Tags.{tag-whole, tag-not-whole}
 use Rattle.notes.proofs.note.Statement.{statement}
 use Rattle.notes.proofs.note.Tie as tie
 
-returns : tie.Need-returns
+returns : tie.Need-returns-in_default
 unfolding note_fault
 returns c =
-    let read = c.before.before.extent-at.ensures in
-    c.broken.ensures ∙ sym (unless-broken _ _ _ (ap is_whole (sym read) ∙ tag-not-whole _ c.before.match.keys2))
+    let read = c.before.before.extent_at.ensures in
+    c.broken.ensures ∙ sym (unless-broken _ _ _ (ap is_whole (sym read) ∙ tag-not-whole _ c.before.in-Whole.keys2))
 
-returns-2 : tie.Need-returns-2
+returns-2 : tie.Need-returns
 unfolding note_fault
 returns-2 c =
-    let read = c.before.before.before.extent-at.ensures in
-    c.none.ensures ∙ sym (unless-kept _ _ _ (ap is_whole (sym read) ∙ tag-whole _ c.before.before.match.keys1))
+    let read = c.before.before.before.extent_at.ensures in
+    c.none.ensures ∙ sym (unless-kept _ _ _ (ap is_whole (sym read) ∙ tag-whole _ c.before.before.in-Whole.keys1))
 
-pub note-spec : {M : Type 1} → statement M
-note-spec =
+pub note_spec : {M : Type 1} → statement M
+note_spec =
     tie.close
     (tie.spec
     (λ c κs. search rules)
-    (λ c. c.match.keys1)
+    (λ c. c.in-Whole.keys1)
     (λ c κs. search rules)
     returns
     (λ c κs. search rules)

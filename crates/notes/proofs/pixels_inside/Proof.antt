@@ -8,17 +8,17 @@ use lib.ListN.{length}
 use Rattle.notes.proofs.pixels_inside.Statement.{statement}
 use Rattle.notes.proofs.pixels_inside.Tie as tie
 
-returns : tie.Need-returns
+returns : tie.Need-returns-then-cache-at
 returns c =
     let a = c.before.before.args in
     let outside : length a.cache.now < a.at + 8 = omega arith in
     simp (lt-leb _ _ outside)
 
-returns-2 : tie.Need-returns-2
-returns-2 c = simp (le-leb _ _ c.before.if1.false, c.u32-at.ensures)
+returns-2 : tie.Need-returns
+returns-2 c = simp (le-leb _ _ c.before.if-cache-at.false, c.u32_at-pixels.ensures)
 
-pub pixels-inside-spec : {M : Type 1} → statement M
-pixels-inside-spec =
+pub pixels_inside_spec : {M : Type 1} → statement M
+pixels_inside_spec =
     tie.close
     (tie.spec
     (λ c. search rules)

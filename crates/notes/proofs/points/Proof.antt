@@ -11,32 +11,32 @@ use Rattle.notes.proofs.points.Statement.{statement}
 use Rattle.notes.proofs.points.Tie as tie
 
 -- where the field leads
-leads : (c : tie.After-u32-at) → let a = c.before.before.args in c.u32-at.result ≡ be 4 a.cache.now a.field
-leads c = c.u32-at.ensures
+leads : (c : tie.After-u32_at-at) → let a = c.before.before.args in c.u32_at-at.result ≡ be 4 a.cache.now a.field
+leads c = c.u32_at-at.ensures
 
-real : (c : tie.Else1) → let a = c.before.before.before.args in be 4 a.cache.now a.field ≡ 0 → ⊥
-real c z = c.if1.false (leads c.before ∙ z)
+real : (c : tie.Else-at-eq0) → let a = c.before.before.before.args in be 4 a.cache.now a.field ≡ 0 → ⊥
+real c z = c.if-at-eq0.false (leads c.before ∙ z)
 
-returns : tie.Need-returns
+returns : tie.Need-returns-then-at-eq0
 unfolding points_fault
-returns c = c.none.ensures ∙ sym (part-absent _ (sym (leads c.before.before) ∙ c.before.if1.true))
+returns c = c.none.ensures ∙ sym (part-absent _ (sym (leads c.before.before) ∙ c.before.if-at-eq0.true))
 
-returns-2 : tie.Need-returns-2
+returns-2 : tie.Need-returns-then-not-valid_entries
 unfolding points_fault
 returns-2 c =
     let judged = c.before.before in
     let e = judged.before in
-    c.broken.ensures ∙ sym (part-there _ (real e) ∙ unless-broken _ _ _ (rw (leads e.before) at (sym judged.valid-entries.ensures ∙ not-true _ c.before.if2.true)))
+    c.broken.ensures ∙ sym (part-there _ (real e) ∙ unless-broken _ _ _ (rw (leads e.before) at (sym judged.valid_entries.ensures ∙ not-true _ c.before.if-not-valid_entries.true)))
 
-returns-3 : tie.Need-returns-3
+returns-3 : tie.Need-returns
 unfolding points_fault
 returns-3 c =
     let judged = c.before.before in
     let e = judged.before in
-    c.none2.ensures ∙ sym (part-there _ (real e) ∙ unless-kept _ _ _ (rw (leads e.before) at (sym judged.valid-entries.ensures ∙ not-false _ c.before.if2.false)))
+    c.none-2.ensures ∙ sym (part-there _ (real e) ∙ unless-kept _ _ _ (rw (leads e.before) at (sym judged.valid_entries.ensures ∙ not-false _ c.before.if-not-valid_entries.false)))
 
-pub points-spec : {M : Type 1} → statement M
-points-spec =
+pub points_spec : {M : Type 1} → statement M
+points_spec =
     tie.close
     (tie.spec
     (λ c κs. search rules)

@@ -13,34 +13,34 @@ use Rattle.paths.proofs.allowed_path.Statement.{statement}
 use Rattle.paths.proofs.allowed_path.Tie as tie
 
 within-is : (c : tie.After-within) → c.within.result ≡ text_within 1023 c.before.before.before.args.path.now
-within-is c = c.within.ensures _ _ refl c.before.read-path.ensures.0
+within-is c = c.within.ensures _ _ refl c.before.read_path-read.ensures.0
 
-returns : tie.Need-returns
+returns : tie.Need-returns-then-not-within
 unfolding allowed_path
-returns c = rw (sym (within-is c.before) ∙ not-true _ c.if1.true)
+returns c = rw (sym (within-is c.before) ∙ not-true _ c.if-not-within.true)
 
 -- a text within the limit
-told : (c : tie.Else1) → text_within 1023 c.before.before.before.before.args.path.now ≡ true
-told c = sym (within-is c.before) ∙ not-false _ c.if1.false
+told : (c : tie.Else-not-within) → text_within 1023 c.before.before.before.before.args.path.now ≡ true
+told c = sym (within-is c.before) ∙ not-false _ c.if-not-within.false
 
-text : (c : tie.Else1) → TextWithin 1023 c.before.before.before.before.args.path.now
+text : (c : tie.Else-not-within) → TextWithin 1023 c.before.before.before.before.args.path.now
 text c = text-tells 1023 c.before.before.before.before.args.path.now (told c)
 
-shared-slice-read-if2 : tie.Need-shared-slice-read-if2
+shared-slice-read-if2 : tie.Need-bounds-path-0
 shared-slice-read-if2 c = (text c.before).some
 
-returns-2 : tie.Need-returns-2
+returns-2 : tie.Need-returns-then-path-eq47
 unfolding allowed_path
-returns-2 c = rw (told c.before.before, eq-eqb _ _ c.if2.true)
+returns-2 c = rw (told c.before.before, eq-eqb _ _ c.if-path-eq47.true)
 
-returns-3 : tie.Need-returns-3
+returns-3 : tie.Need-returns
 unfolding allowed_path
 returns-3 c =
     let e = c.before.before in
-    let read = e.before.before.read-path.ensures.1 in
-    rw (told e, ne_eqb _ _ c.if2.false) (read ∙ ap (λ t. valid_segments (take 1023 t)) (text e).uncut ∙ rw (take_all _ _ (text e).within))
+    let read = e.before.before.read_path-read.ensures.1 in
+    rw (told e, ne_eqb _ _ c.if-path-eq47.false) (read ∙ ap (λ t. valid_segments (take 1023 t)) (text e).uncut ∙ rw (take_all _ _ (text e).within))
 
-pub allowed-path-spec : {M : Type 1} → statement M
-allowed-path-spec =
+pub allowed_path_spec : {M : Type 1} → statement M
+allowed_path_spec =
     tie.close
     (tie.spec (λ c κs. search rules) (λ c κs. search rules) returns shared-slice-read-if2 returns-2 returns-3)

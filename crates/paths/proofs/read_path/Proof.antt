@@ -14,13 +14,13 @@ use Rattle.paths.proofs.Reading.{Reading, at-end, next-byte, next-slash, same-re
 use Rattle.paths.proofs.read_path.Statement.{statement}
 use Rattle.paths.proofs.read_path.Tie as tie
 
-abbrev invariant-loop : tie.invariant-loop
+abbrev invariant-loop : tie.invariant-loop-i
 invariant-loop part valid₀ start₀ i₀ valid start i = Reading part valid start i
 
-abbrev decreases-loop : tie.decreases-loop
+abbrev decreases-loop : tie.decreases-loop-i
 decreases-loop part valid₀ start₀ i₀ valid start i = length part - i
 
-loop-holds : tie.Need-loop-init invariant-loop decreases-loop
+loop-holds : tie.Need-loop-i-init invariant-loop decreases-loop
 loop-holds c = record {
   started = omega arith;
   inside = omega arith;
@@ -30,44 +30,44 @@ loop-holds c = record {
   judged = refl;
 }
 
-returns : tie.Need-returns invariant-loop decreases-loop
+returns : tie.Need-returns-then-byte-eq0 invariant-loop decreases-loop
 returns c =
     let l = c.before.before.before.before.before in
     let t = l.before.before.args.part.now in
-    let stop = c.before.before.if1.true in
-    let none = none_left 1023 t l.loop.i stop in (
-      c.ended.ensures ∙ extent-ended 1023 t l.loop.i l.loop.invariant.passed (omega arith) (omega arith) stop,
-      at-end l.loop.invariant none c.before.valid_to.ensures,
+    let stop = c.before.before.if-byte-eq0.true in
+    let none = none_left 1023 t l.loop-i.i stop in (
+      c.ended.ensures ∙ extent-ended 1023 t l.loop-i.i l.loop-i.invariant.passed (omega arith) (omega arith) stop,
+      at-end l.loop-i.invariant none c.before.valid_to-valid_segments.ensures,
     )
 
-returns-2 : tie.Need-returns-2 invariant-loop decreases-loop
+returns-2 : tie.Need-returns-then-i-eq1023 invariant-loop decreases-loop
 returns-2 c =
     let l = c.before.before.before.before.before in
     let t = l.before.before.args.part.now in
-    let full = c.before.if2.true in (
-      extent-long 1023 t l.loop.i l.loop.invariant.passed full c.before.before.if1.false,
-      at-end l.loop.invariant (none_within 1023 t l.loop.i full) c.valid-to2.ensures,
+    let full = c.before.if-i-eq1023.true in (
+      extent-long 1023 t l.loop-i.i l.loop-i.invariant.passed full c.before.before.if-byte-eq0.false,
+      at-end l.loop-i.invariant (none_within 1023 t l.loop-i.i full) c.valid_to.ensures,
     )
 
-loop-again : tie.Need-loop-preserved invariant-loop decreases-loop
+loop-again : tie.Need-loop-i-preserved invariant-loop decreases-loop
 loop-again c =
     let l = c.before.before.before.before.before in
-    let nz = c.before.before.if1.false in
+    let nz = c.before.before.if-byte-eq0.false in
     ⊎_elim
-    (λ w. same-reading w.2 w.3 (next-slash l.loop.invariant (omega arith) (omega arith) nz w.0.taken w.1.ensures))
-    (λ w. same-reading w.1 w.2 (next-byte l.loop.invariant (omega arith) (omega arith) nz w.0.left))
-    c.if3.branch
+    (λ w. same-reading w.2 w.3 (next-slash l.loop-i.invariant (omega arith) (omega arith) nz w.0.taken w.1.ensures))
+    (λ w. same-reading w.1 w.2 (next-byte l.loop-i.invariant (omega arith) (omega arith) nz w.0.left))
+    c.if-byte-eq47.branch
 
-returns-3 : tie.Need-returns-3 invariant-loop decreases-loop
+returns-3 : tie.Need-returns invariant-loop decreases-loop
 returns-3 c =
     let l = c.before.before in
     let t = l.before.before.args.part.now in
-    let end = c.before.loop-test.false in
-    let none = none_left 1023 t l.loop.i (get_or-eq_default t 0 end) in
-    (extent-cut 1023 t l.loop.i l.loop.invariant.passed (omega arith) end, at-end l.loop.invariant none c.valid-to4.ensures)
+    let end = c.before.loop-i-test.false in
+    let none = none_left 1023 t l.loop-i.i (get_or-eq_default t 0 end) in
+    (extent-cut 1023 t l.loop-i.i l.loop-i.invariant.passed (omega arith) end, at-end l.loop-i.invariant none c.valid_to-2.ensures)
 
-pub read-path-spec : {M : Type 1} → statement M
-read-path-spec =
+pub read_path_spec : {M : Type 1} → statement M
+read_path_spec =
     tie.close
     (tie.spec
     invariant-loop

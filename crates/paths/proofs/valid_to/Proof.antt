@@ -4,11 +4,11 @@ use borrow.Author.Rules.{rules}
 use Rattle.paths.proofs.valid_to.Statement.{statement}
 use Rattle.paths.proofs.valid_to.Tie as tie
 
-returns : tie.Need-returns
-returns c = c.valid-segment.ensures ∙ rw c.before.before.if1.true
+returns : tie.Need-returns-then-before
+returns c = c.valid_segment.ensures ∙ rw c.before.before.if-before.true
 
-pub valid-to-spec : {M : Type 1} → statement M
-valid-to-spec =
+pub valid_to_spec : {M : Type 1} → statement M
+valid_to_spec =
     tie.close
     (tie.spec
     (λ c. search rules)

@@ -13,33 +13,33 @@ use Rattle.pick.specs.Laws.Fitting.{image-none, image-here, image-later}
 use Rattle.pick.proofs.first_image.Statement.{statement}
 use Rattle.pick.proofs.first_image.Tie as tie
 
-abbrev invariant-loop : tie.invariant-loop
+abbrev invariant-loop : tie.invariant-loop-left
 invariant-loop cache at m size scale words left₀ here₀ left here =
     (here + 8 * left ≤ length cache) × ((images_fault left cache here).number ≡ 0)
     × (first_image (fits words size scale cache) left here ≡ first_image (fits words size scale cache) m at)
 
-abbrev decreases-loop : tie.decreases-loop
+abbrev decreases-loop : tie.decreases-loop-left
 decreases-loop cache at m size scale words left₀ here₀ left here = left
 
 fits-requires : tie.Need-fits-requires invariant-loop decreases-loop
 fits-requires c κs =
     let l = c.before in
-    let first = (first-none _ _ _ _ (l.loop.left - 1) (omega arith) l.loop.invariant.1).0 in
+    let first = (first-none _ _ _ _ (l.loop-left.left - 1) (omega arith) l.loop-left.invariant.1).0 in
     (omega arith, (((and-eq-true_iff _ _).0 (unless-none _ _ _ first)).0, l.before.before.before.requires.1.1))
 
-returns : tie.Need-returns invariant-loop decreases-loop
+returns : tie.Need-returns-then-fits invariant-loop decreases-loop
 returns c =
     let l = c.before.before.before in
-    sym (image-here _ _ _ (omega arith) (sym c.before.fits2.ensures ∙ c.if1.true)) ∙ l.loop.invariant.2
+    sym (image-here _ _ _ (omega arith) (sym c.before.fits2.ensures ∙ c.if-fits.true)) ∙ l.loop-left.invariant.2
 
-loop-again : tie.Need-loop-preserved invariant-loop decreases-loop
+loop-again : tie.Need-loop-left-preserved invariant-loop decreases-loop
 loop-again c =
     let l = c.before.before.before in
-    let rest = (first-none _ _ _ _ (l.loop.left - 1) (omega arith) l.loop.invariant.1).1 in
-    (omega arith, rest, sym (image-later _ _ _ (l.loop.left - 1) (omega arith) (sym c.before.fits2.ensures ∙ c.if1.false)) ∙ l.loop.invariant.2)
+    let rest = (first-none _ _ _ _ (l.loop-left.left - 1) (omega arith) l.loop-left.invariant.1).1 in
+    (omega arith, rest, sym (image-later _ _ _ (l.loop-left.left - 1) (omega arith) (sym c.before.fits2.ensures ∙ c.if-fits.false)) ∙ l.loop-left.invariant.2)
 
-pub first-image-spec : {M : Type 1} → statement M
-first-image-spec =
+pub first_image_spec : {M : Type 1} → statement M
+first_image_spec =
     tie.close
     (tie.spec
     invariant-loop
@@ -51,4 +51,4 @@ first-image-spec =
     (λ c. omega arith)
     (λ c. omega arith)
     loop-again
-    (λ c. sym (image-none _ _ _ (omega arith)) ∙ c.before.loop.invariant.2))
+    (λ c. sym (image-none _ _ _ (omega arith)) ∙ c.before.loop-left.invariant.2))

@@ -11,25 +11,25 @@ use Rattle.pick.specs.Pick.{kind_fault, kinds_fault}
 use Rattle.pick.proofs.judge_kinds.Statement.{statement}
 use Rattle.pick.proofs.judge_kinds.Tie as tie
 
-abbrev invariant-loop : tie.invariant-loop
+abbrev invariant-loop : tie.invariant-loop-left
 invariant-loop words n left₀ at₀ left at = (at + 6 * left ≡ length words) × (first_fault (kind_fault words) (step_on 6) left at ≡ kinds_fault n words)
 
-abbrev decreases-loop : tie.decreases-loop
+abbrev decreases-loop : tie.decreases-loop-left
 decreases-loop words n left₀ at₀ left at = left
 
-returns : tie.Need-returns invariant-loop decreases-loop
+returns : tie.Need-returns-then-words-at-gt2 invariant-loop decreases-loop
 returns c =
     let l = c.before.before.before in
-    let broken = unless-broken _ 32 _ (lt-leb _ 2 c.if1.true) in
-    sym (first-stop _ _ _ _ (omega arith) (rw broken (λ z. omega arith)) ∙ broken) ∙ l.loop.invariant.1
+    let broken = unless-broken _ 32 _ (lt-leb _ 2 c.if-words-at-gt2.true) in
+    sym (first-stop _ _ _ _ (omega arith) (rw broken (λ z. omega arith)) ∙ broken) ∙ l.loop-left.invariant.1
 
-loop-again : tie.Need-loop-preserved invariant-loop decreases-loop
+loop-again : tie.Need-loop-left-preserved invariant-loop decreases-loop
 loop-again c =
     let l = c.before.before.before in
-    (omega arith, sym (first-go-on _ _ _ _ (l.loop.left - 1) (omega arith) (rw (le-leb _ 2 c.if1.false))) ∙ l.loop.invariant.1)
+    (omega arith, sym (first-go-on _ _ _ _ (l.loop-left.left - 1) (omega arith) (rw (le-leb _ 2 c.if-words-at-gt2.false))) ∙ l.loop-left.invariant.1)
 
-pub judge-kinds-spec : {M : Type 1} → statement M
-judge-kinds-spec =
+pub judge_kinds_spec : {M : Type 1} → statement M
+judge_kinds_spec =
     tie.close
     (tie.spec
     invariant-loop
@@ -42,4 +42,4 @@ judge-kinds-spec =
     (λ c. omega arith)
     (λ c. omega arith)
     loop-again
-    (λ c. sym (first-end _ _ _ _ (omega arith)) ∙ c.before.loop.invariant.1))
+    (λ c. sym (first-end _ _ _ _ (omega arith)) ∙ c.before.loop-left.invariant.1))

@@ -7,13 +7,13 @@ use Rattle.pick.specs.Laws.Answer.{words-miscounted, words-counted}
 use Rattle.pick.proofs.judge_words.Statement.{statement}
 use Rattle.pick.proofs.judge_words.Tie as tie
 
-returns : tie.Need-returns
-returns c = sym (words-miscounted _ _ (rw (same-directories c.before.read.ensures) at c.if1.true))
+returns : tie.Need-returns-then-words-n
+returns c = sym (words-miscounted _ _ (rw (same-directories c.before.read-t.ensures) at c.if-words-n.true))
 
-returns-2 : tie.Need-returns-2
+returns-2 : tie.Need-returns
 returns-2 c =
-    let read = c.before.before.read.ensures in
-    c.judge-kinds.ensures ∙ rw (same-directories read) (sym (words-counted _ _ (rw (same-directories read) at c.before.if1.false)))
+    let read = c.before.before.read-t.ensures in
+    c.judge_kinds.ensures ∙ rw (same-directories read) (sym (words-counted _ _ (rw (same-directories read) at c.before.if-words-n.false)))
 
-pub judge-words-spec : {M : Type 1} → statement M
-judge-words-spec = tie.close (tie.spec (λ c κs. search rules) (λ c. search rules) (λ c. search rules) returns (λ c κs. search rules) returns-2)
+pub judge_words_spec : {M : Type 1} → statement M
+judge_words_spec = tie.close (tie.spec (λ c κs. search rules) (λ c. search rules) (λ c. search rules) returns (λ c κs. search rules) returns-2)

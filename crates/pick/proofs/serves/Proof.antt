@@ -6,13 +6,13 @@ use Rattle.pick.specs.Pick.{serves}
 use Rattle.pick.proofs.serves.Statement.{statement}
 use Rattle.pick.proofs.serves.Tie as tie
 
-returns : tie.Need-returns
+returns : tie.Need-returns-then-d-scale
 unfolding serves
-returns c = c.serves-size.ensures ∙ rw (eq-eqb _ _ c.before.if1.true)
+returns c = c.serves_size.ensures ∙ rw (eq-eqb _ _ c.before.if-d-scale.true)
 
-returns-2 : tie.Need-returns-2
+returns-2 : tie.Need-returns-else-d-scale
 unfolding serves
-returns-2 c = rw (ne_eqb _ _ c.if1.false)
+returns-2 c = rw (ne_eqb _ _ c.if-d-scale.false)
 
-pub serves-spec : {M : Type 1} → statement M
-serves-spec = tie.close (tie.spec (λ c κs. search rules) returns returns-2)
+pub serves_spec : {M : Type 1} → statement M
+serves_spec = tie.close (tie.spec (λ c κs. search rules) returns returns-2)

@@ -8,32 +8,32 @@ use Rattle.records.specs.ValidWords.{valid_words}
 use Rattle.records.proofs.images.Statement.{statement}
 use Rattle.records.proofs.images.Tie as tie
 
-abbrev invariant-loop : tie.invariant-loop
+abbrev invariant-loop : tie.invariant-loop-left
 invariant-loop cache n m at valid left₀ here₀ left here = (here + 8 * left ≤ length cache) × (images_fault left cache here ≡ images_fault m cache at)
 
-abbrev decreases-loop : tie.decreases-loop
+abbrev decreases-loop : tie.decreases-loop-left
 decreases-loop cache n m at valid left₀ here₀ left here = left
 
-valid-image-requires : tie.Need-valid-image-requires invariant-loop decreases-loop
+valid-image-requires : tie.Need-valid_image-requires invariant-loop decreases-loop
 valid-image-requires c κs =
     let words = c.before.before in
     let pre = words.before.before.requires in
-    ((omega (arith, pre), words.valid-words.ensures ∙ ap valid_words pre.1), omega arith)
+    ((omega (arith, pre), words.valid_words-valid.ensures ∙ ap valid_words pre.1), omega arith)
 
-returns : tie.Need-returns invariant-loop decreases-loop
+returns : tie.Need-returns-then-not-valid_image invariant-loop decreases-loop
 returns c =
     let l = c.before.before.before in
-    let broken = unless-broken _ 11 _ (sym c.before.valid-image.ensures ∙ not-true _ c.if1.true) in
-    sym (first-stop _ _ _ _ (omega arith) (rw broken (λ z. omega arith)) ∙ broken) ∙ l.loop.invariant.1
+    let broken = unless-broken _ 11 _ (sym c.before.valid_image.ensures ∙ not-true _ c.if-not-valid_image.true) in
+    sym (first-stop _ _ _ _ (omega arith) (rw broken (λ z. omega arith)) ∙ broken) ∙ l.loop-left.invariant.1
 
-loop-again : tie.Need-loop-preserved invariant-loop decreases-loop
+loop-again : tie.Need-loop-left-preserved invariant-loop decreases-loop
 loop-again c =
     let l = c.before.before.before in
-    let kept = sym c.before.valid-image.ensures ∙ not-false _ c.if1.false in
-    (omega arith, sym (first-go-on _ _ _ _ (l.loop.left - 1) (omega arith) (rw kept)) ∙ l.loop.invariant.1)
+    let kept = sym c.before.valid_image.ensures ∙ not-false _ c.if-not-valid_image.false in
+    (omega arith, sym (first-go-on _ _ _ _ (l.loop-left.left - 1) (omega arith) (rw kept)) ∙ l.loop-left.invariant.1)
 
-pub images-spec : {M : Type 1} → statement M
-images-spec =
+pub images_spec : {M : Type 1} → statement M
+images_spec =
     tie.close
     (tie.spec
     invariant-loop
@@ -46,4 +46,4 @@ images-spec =
     (λ c. omega arith)
     (λ c. omega arith)
     loop-again
-    (λ c. sym (first-end _ _ _ _ (omega arith)) ∙ c.before.loop.invariant.1))
+    (λ c. sym (first-end _ _ _ _ (omega arith)) ∙ c.before.loop-left.invariant.1))

@@ -13,20 +13,20 @@ use Rattle.tables.specs.Laws.{same-directories}
 use Rattle.records.proofs.judge_images.Statement.{statement}
 use Rattle.records.proofs.judge_images.Tie as tie
 
-listed : (c : tie.After-valid-image-list)
-    → let a = c.before.before.before.args in c.valid-image-list.result ≡ valid_image_list a.cache.now (images_at a.cache.now a.«record»)
-listed c = c.valid-image-list.ensures ∙ rw c.before.u32-at.ensures
+listed : (c : tie.After-valid_image_list)
+    → let a = c.before.before.before.args in c.valid_image_list.result ≡ valid_image_list a.cache.now (images_at a.cache.now a.«record»)
+listed c = c.valid_image_list.ensures ∙ rw c.before.u32_at-at.ensures
 
-ends-inside : (c : tie.Else1)
+ends-inside : (c : tie.Else-not-valid_image_list)
     → let s = c.before.before.before.before.args.cache.now in
-    let at = c.before.before.u32-at.result in
+    let at = c.before.before.u32_at-at.result in
     at + 4 + 8 * be 4 s at ≤ length s
-ends-inside c = list-ends _ _ 8 ((and-eq-true_iff _ _).0 (sym c.before.valid-image-list.ensures ∙ not-false _ c.if1.false)).0
+ends-inside c = list-ends _ _ 8 ((and-eq-true_iff _ _).0 (sym c.before.valid_image_list.ensures ∙ not-false _ c.if-not-valid_image_list.false)).0
 
-returns : tie.Need-returns
-returns c = sym (list-broken _ _ (sym (listed c.before) ∙ not-true _ c.if1.true))
+returns : tie.Need-returns-then-not-valid_image_list
+returns c = sym (list-broken _ _ (sym (listed c.before) ∙ not-true _ c.if-not-valid_image_list.true))
 
-u32-at-requires-2 : tie.Need-u32-at-requires-2
+u32-at-requires-2 : tie.Need-u32_at-m-requires
 u32-at-requires-2 c κs = omega (arith, ends-inside c)
 
 images-requires : tie.Need-images-requires
@@ -35,17 +35,17 @@ images-requires c κs =
     let count = same-directories start.requires.0 in (
       omega (arith, count, (header-valid _ start.requires.0.header).directories-few),
       count,
-      omega (arith, ends-inside c.before, c.u32-at2.ensures),
+      omega (arith, ends-inside c.before, c.u32_at-m.ensures),
     )
 
-returns-2 : tie.Need-returns-2
+returns-2 : tie.Need-returns
 returns-2 c =
     let valid = c.before.before in
-    c.images.ensures ∙ rw (c.before.u32-at2.ensures, valid.before.before.u32-at.ensures)
-    (sym (list-kept _ _ (sym (listed valid.before) ∙ not-false _ valid.if1.false)))
+    c.images.ensures ∙ rw (c.before.u32_at-m.ensures, valid.before.before.u32_at-at.ensures)
+    (sym (list-kept _ _ (sym (listed valid.before) ∙ not-false _ valid.if-not-valid_image_list.false)))
 
-pub judge-images-spec : {M : Type 1} → statement M
-judge-images-spec =
+pub judge_images_spec : {M : Type 1} → statement M
+judge_images_spec =
     tie.close
     (tie.spec
     (λ c. search rules)

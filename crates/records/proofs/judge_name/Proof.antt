@@ -1,6 +1,6 @@
 -- `records::judge_name` meets its contract: what each test asks is what a rule of the definition
 -- asks, and the laws `name-unread`, `name-foreign` and `name-home` say which rule is the first to
--- be broken.
+-- be broken. A name that is known keeps all three by the `requires`.
 use Rattle.std.proofs.Common.{◌≡◌, ◌+◌, ◌%◌, true, sym, ap, ◌∙◌, rules}
 use Rattle.format.specs.String.{extent, is_whole, string_fault, hash}
 use Rattle.format.specs.Header.{buckets}
@@ -16,59 +16,63 @@ use Rattle.records.proofs.judge_name.Tie as tie
 
 -- the call's start, from the place where the name is read, and from the place where the bucket is
 -- compared
-abbrev start : tie.After-read-name → tie.Start
-start c = c.before.before.before
+abbrev start : tie.After-read_name-name → tie.Start
+start c = c.before.before.before.before
 
-abbrev start-of-all : tie.After-struct-known2 → tie.Start
+abbrev start-of-all : tie.After-struct_known-2-1 → tie.Start
 start-of-all c = start c.before.before.before.before
 
 counted : (c : tie.Start) → c.args.t.buckets ≡ buckets c.args.cache.now
 counted c = same-buckets c.requires.0
 
-named : (c : tie.After-read-name)
-    → let a = (start c).args in c.read_name.result.extent ≡ name_extent a.cache.now a.«record»
-named c = c.read_name.ensures.0 ∙ ap (extent 255) c.before.name-part.ensures
+named : (c : tie.After-read_name-name)
+    → let a = (start c).args in c.read_name-name.result.extent ≡ name_extent a.cache.now a.«record»
+named c = c.read_name-name.ensures.0 ∙ ap (extent 255) c.before.name_part.ensures
 
 -- a name that is whole was read to its end
-hashed : (c : tie.After-read-name)
+hashed : (c : tie.After-read_name-name)
     → let a = (start c).args in
-    is_whole (name_extent a.cache.now a.«record») ≡ true → c.read_name.result.hash ≡ hash (name_of a.cache.now a.«record»)
-hashed c valid = c.read_name.ensures.1 ∙ ap hash (whole-within 255 c.before.name-part.ensures valid)
+    is_whole (name_extent a.cache.now a.«record») ≡ true → c.read_name-name.result.hash ≡ hash (name_of a.cache.now a.«record»)
+hashed c valid = c.read_name-name.ensures.1 ∙ ap hash (whole-within 255 c.before.name_part.ensures valid)
 
-whole : (c : tie.After-struct-known2) → is_whole (name_extent (start-of-all c).args.cache.now (start-of-all c).args.«record») ≡ true
-whole c = ap is_whole (sym (named c.before.before.before.before)) ∙ tag-whole _ c.before.before.before.match.keys1
+whole : (c : tie.After-struct_known-2-1) → is_whole (name_extent (start-of-all c).args.cache.now (start-of-all c).args.«record») ≡ true
+whole c = ap is_whole (sym (named c.before.before.before.before)) ∙ tag-whole _ c.before.before.before.in-Whole.keys1
 
-placed : (c : tie.After-struct-known2)
+placed : (c : tie.After-struct_known-2-1)
     → let a = (start-of-all c).args in
-    c.before.before.before.before.read_name.result.hash % a.t.buckets ≡ bucket_of a.cache.now (name_of a.cache.now a.«record»)
+    c.before.before.before.before.read_name-name.result.hash % a.t.buckets ≡ bucket_of a.cache.now (name_of a.cache.now a.«record»)
 placed c = let read = c.before.before.before.before in hash-bucket _ _ (hashed read (whole c)) (counted (start-of-all c))
 
-returns : tie.Need-returns
-returns c =
+returns : tie.Need-returns-then-known
+returns c = sym (c.before.before.requires.1.1 c.if-known.true)
+
+returns-2 : tie.Need-returns-in_default
+returns-2 c =
     let read = c.before.before in
-    let broken = ap is_whole (sym (named read)) ∙ tag-not-whole _ c.before.match.keys2 in
+    let broken = ap is_whole (sym (named read)) ∙ tag-not-whole _ c.before.in-Whole.keys2 in
     c.judge.ensures ∙ ap (λ e. string_fault e 8 ((start read).args.«record» + 4)) (named read) ∙ sym (name-unread _ _ _ broken)
 
-rem-if1 : tie.Need-nonzero-rem-if1
-rem-if1 c = rw (counted (start-of-all c)) (header-valid _ (start-of-all c).requires.0.header).buckets-some
+rem-if2 : tie.Need-nonzero-rem-if2
+rem-if2 c = rw (counted (start-of-all c)) (header-valid _ (start-of-all c).requires.0.header).buckets-some
 
-returns-2 : tie.Need-returns-2
-returns-2 c = sym (name-foreign _ _ _ (whole c.before) (rw (placed c.before) at c.if1.true))
+returns-3 : tie.Need-returns-then-name-t
+returns-3 c = sym (name-foreign _ _ _ (whole c.before) (rw (placed c.before) at c.if-name-t.true))
 
-returns-3 : tie.Need-returns-3
-returns-3 c = sym (name-home _ _ _ (whole c.before) (rw (placed c.before) at c.if1.false))
+returns-4 : tie.Need-returns
+returns-4 c = sym (name-home _ _ _ (whole c.before) (rw (placed c.before) at c.if-name-t.false))
 
-pub judge-name-spec : {M : Type 1} → statement M
-judge-name-spec =
+pub judge_name_spec : {M : Type 1} → statement M
+judge_name_spec =
     tie.close
     (tie.spec
-    (λ c κs. search rules)
-    (λ c κs. search rules)
-    (λ c. search rules)
-    (λ c. search rules)
-    (λ c κs. search rules)
     returns
-    rem-if1
+    (λ c κs. search rules)
+    (λ c κs. search rules)
     (λ c. search rules)
+    (λ c. search rules)
+    (λ c κs. search rules)
     returns-2
-    returns-3)
+    rem-if2
+    (λ c. search rules)
+    returns-3
+    returns-4)

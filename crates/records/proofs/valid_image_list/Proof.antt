@@ -5,16 +5,16 @@ use Rattle.format.specs.Laws.Reads.{list-ends}
 use Rattle.records.proofs.valid_image_list.Statement.{statement}
 use Rattle.records.proofs.valid_image_list.Tie as tie
 
-u32-at-requires : tie.Need-u32-at-requires
+u32-at-requires : tie.Need-u32_at-requires
 u32-at-requires c κs =
     let a = c.before.before.before.args in
-    omega (arith, list-ends a.cache.now a.at 8 (sym c.before.list_inside.ensures ∙ c.if1.true))
+    omega (arith, list-ends a.cache.now a.at 8 (sym c.before.list_inside.ensures ∙ c.if-list_inside.true))
 
-returns : tie.Need-returns
-returns c = simp (← c.before.before.list_inside.ensures, c.before.if1.true, c.u32-at.ensures)
+returns : tie.Need-returns-then-list_inside
+returns c = simp (← c.before.before.list_inside.ensures, c.before.if-list_inside.true, c.u32_at.ensures)
 
-returns-2 : tie.Need-returns-2
-returns-2 c = simp (← c.before.list_inside.ensures, c.if1.false)
+returns-2 : tie.Need-returns-else-list_inside
+returns-2 c = simp (← c.before.list_inside.ensures, c.if-list_inside.false)
 
-pub valid-image-list-spec : {M : Type 1} → statement M
-valid-image-list-spec = tie.close (tie.spec (λ c κs. search rules) u32-at-requires returns returns-2)
+pub valid_image_list_spec : {M : Type 1} → statement M
+valid_image_list_spec = tie.close (tie.spec (λ c κs. search rules) u32-at-requires returns returns-2)

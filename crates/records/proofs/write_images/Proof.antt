@@ -8,36 +8,36 @@ use Rattle.format.specs.Laws.Images.{two-stored, words-cons}
 use Rattle.records.proofs.write_images.Statement.{statement}
 use Rattle.records.proofs.write_images.Tie as tie
 
-abbrev invariant-loop : tie.invariant-loop
+abbrev invariant-loop : tie.invariant-loop-i
 invariant-loop cache at m words₀ i₀ words i =
     (i ≤ m) × (length words ≡ length words₀) × (drop (2 * i) words ≡ image_words (m - i) cache (at + 8 * i) ++ drop (2 * m) words₀)
 
-abbrev decreases-loop : tie.decreases-loop
+abbrev decreases-loop : tie.decreases-loop-i
 decreases-loop cache at m words₀ i₀ words i = i
 
-loop-holds : tie.Need-loop-init invariant-loop decreases-loop
+loop-holds : tie.Need-loop-i-init invariant-loop decreases-loop
 unfolding image_words
 loop-holds c = (omega arith, refl, rw sub_self)
 
-loop-again : tie.Need-loop-preserved invariant-loop decreases-loop
+loop-again : tie.Need-loop-i-preserved invariant-loop decreases-loop
 loop-again c =
     let l = c.before.before.before in
     let a = l.before.before.before.args in
-    let i = l.loop.i in
+    let i = l.loop-i.i in
     let words-after : 2 * (i - 1) + 2 ≡ 2 * i = omega arith in
     let image-after : a.at + 8 * (i - 1) + 8 ≡ a.at + 8 * i = omega arith in
     let one-image = words-cons a.cache.now (a.m - (i - 1)) (a.at + 8 * (i - 1)) (a.m - i) (omega arith) in (
       omega arith,
-      simp length-set l.loop.invariant.1,
-      two-stored l.loop.words (2 * (i - 1)) _ _ (omega arith)
-          ∙ rw (words-after, l.loop.invariant.2, one-image, image-after, c.before.first_word.ensures.0, c.u32-at.ensures),
+      simp length-set l.loop-i.invariant.1,
+      two-stored l.loop-i.words (2 * (i - 1)) _ _ (omega arith)
+          ∙ rw (words-after, l.loop-i.invariant.2, one-image, image-after, c.before.first_word.ensures.0, c.u32_at.ensures),
     )
 
 returns : tie.Need-returns invariant-loop decreases-loop
-returns c = let first : c.before.loop.i ≡ 0 = omega arith in rw (first, sub-zero, add-zero) at c.before.loop.invariant.2
+returns c = let first : c.before.loop-i.i ≡ 0 = omega arith in rw (first, sub-zero, add-zero) at c.before.loop-i.invariant.2
 
-pub write-images-spec : {M : Type 1} → statement M
-write-images-spec =
+pub write_images_spec : {M : Type 1} → statement M
+write_images_spec =
     tie.close
     (tie.spec
     invariant-loop

@@ -16,49 +16,49 @@ use Rattle.repeats.specs.Laws.{name-read}
 use Rattle.repeats.proofs.look_for.Statement.{statement}
 use Rattle.repeats.proofs.look_for.Tie as tie
 
-abbrev invariant-loop : tie.invariant-loop
+abbrev invariant-loop : tie.invariant-loop-i
 invariant-loop cache field n index entries at₀ i₀ at i =
     (i ≤ n)
     × (at ≡ ahead cache field i)
     × ((before : List (List ℕ)) → Represents (key_at Ended cache) index entries before → Looked (name_along cache field) before i i)
 
-abbrev decreases-loop : tie.decreases-loop
+abbrev decreases-loop : tie.decreases-loop-i
 decreases-loop cache field n index entries at₀ i₀ at i = n - i
 
-loop-holds : tie.Need-loop-init invariant-loop decreases-loop
+loop-holds : tie.Need-loop-i-init invariant-loop decreases-loop
 unfolding ahead
 loop-holds c = (omega arith, refl, λ before known. looked-none)
 
-read-record-requires : tie.Need-read-record-requires invariant-loop decreases-loop
+read-record-requires : tie.Need-read_record-next-requires invariant-loop decreases-loop
 read-record-requires c κs =
     let l = c.before in
-    rw l.loop.invariant.1 (l.before.before.before.requires.0 l.loop.i c.loop-test.true)
+    rw l.loop-i.invariant.1 (l.before.before.before.requires.0 l.loop-i.i c.loop-i-test.true)
 
-returns : tie.Need-returns invariant-loop decreases-loop
+returns : tie.Need-returns-then-holds invariant-loop decreases-loop
 returns c = λ before known.
     let asked = c.before in
     let next = asked.before in
     let l = next.before.before in
-    let is = name-read _ _ l.loop.i (ahead-next _ _ _ l.loop.invariant.1 next.read-record.ensures.0) next.read-record.ensures.1 in
-    looked-found (l.loop.invariant.2 before known) is (asked.holds.ensures before known) c.if1.true (omega arith)
+    let is = name-read _ _ l.loop-i.i (ahead-next _ _ _ l.loop-i.invariant.1 next.read_record-next.ensures.0) next.read_record-next.ensures.1 in
+    looked-found (l.loop-i.invariant.2 before known) is (asked.holds.ensures before known) c.if-holds.true (omega arith)
 
-loop-again : tie.Need-loop-preserved invariant-loop decreases-loop
+loop-again : tie.Need-loop-i-preserved invariant-loop decreases-loop
 loop-again c =
     let asked = c.before in
     let next = asked.before in
     let l = next.before.before in
-    let there = ahead-next _ _ _ l.loop.invariant.1 next.read-record.ensures.0 in
-    let is = name-read _ _ l.loop.i there next.read-record.ensures.1 in
-    (omega arith, there, λ before known. looked-more (l.loop.invariant.2 before known) is (asked.holds.ensures before known) c.if1.false)
+    let there = ahead-next _ _ _ l.loop-i.invariant.1 next.read_record-next.ensures.0 in
+    let is = name-read _ _ l.loop-i.i there next.read_record-next.ensures.1 in
+    (omega arith, there, λ before known. looked-more (l.loop-i.invariant.2 before known) is (asked.holds.ensures before known) c.if-holds.false)
 
-returns-2 : tie.Need-returns-2 invariant-loop decreases-loop
+returns-2 : tie.Need-returns invariant-loop decreases-loop
 returns-2 c = λ before known.
     let l = c.before in
-    let all : l.before.before.before.args.n ≡ l.loop.i = omega arith in
-    rw all (l.loop.invariant.2 before known)
+    let all : l.before.before.before.args.n ≡ l.loop-i.i = omega arith in
+    rw all (l.loop-i.invariant.2 before known)
 
-pub look-for-spec : {M : Type 1} → statement M
-look-for-spec =
+pub look_for_spec : {M : Type 1} → statement M
+look_for_spec =
     tie.close
     (tie.spec
     invariant-loop

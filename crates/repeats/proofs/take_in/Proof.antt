@@ -15,49 +15,49 @@ use Rattle.repeats.specs.Laws.{name-read}
 use Rattle.repeats.proofs.take_in.Statement.{statement}
 use Rattle.repeats.proofs.take_in.Tie as tie
 
-abbrev invariant-loop : tie.invariant-loop
+abbrev invariant-loop : tie.invariant-loop-i
 invariant-loop cache field n index₀ at₀ i₀ index at i =
     (i ≤ n) × (length index ≡ length index₀) × (at ≡ ahead cache field i) × Taken (key_at Ended cache) (name_along cache field) index i i
 
-abbrev decreases-loop : tie.decreases-loop
+abbrev decreases-loop : tie.decreases-loop-i
 decreases-loop cache field n index₀ at₀ i₀ index at i = n - i
 
-loop-holds : tie.Need-loop-init invariant-loop decreases-loop
+loop-holds : tie.Need-loop-i-init invariant-loop decreases-loop
 unfolding ahead
 loop-holds c = (omega arith, refl, refl, taken_none _)
 
-read-record-requires : tie.Need-read-record-requires invariant-loop decreases-loop
+read-record-requires : tie.Need-read_record-next-requires invariant-loop decreases-loop
 read-record-requires c κs =
     let l = c.before in
-    rw l.loop.invariant.2 (l.before.before.before.requires.0 l.loop.i c.loop-test.true)
+    rw l.loop-i.invariant.2 (l.before.before.before.requires.0 l.loop-i.i c.loop-i-test.true)
 
-returns : tie.Need-returns invariant-loop decreases-loop
+returns : tie.Need-returns-then-met invariant-loop decreases-loop
 returns c =
     let asked = c.before.before.before in
     let next = asked.before.before in
     let l = next.before.before in
-    let taken = l.loop.invariant.3 in
-    let is = name-read _ _ l.loop.i (ahead-next _ _ _ l.loop.invariant.2 next.read-record.ensures.0) next.read-record.ensures.1 in
-    taken-again taken is (asked.met.ensures _ (taken.known refl)) c.if1.true (omega arith)
+    let taken = l.loop-i.invariant.3 in
+    let is = name-read _ _ l.loop-i.i (ahead-next _ _ _ l.loop-i.invariant.2 next.read_record-next.ensures.0) next.read_record-next.ensures.1 in
+    taken-again taken is (asked.met.ensures _ (taken.known refl)) c.if-met.true (omega arith)
 
-loop-again : tie.Need-loop-preserved invariant-loop decreases-loop
+loop-again : tie.Need-loop-i-preserved invariant-loop decreases-loop
 loop-again c =
     let asked = c.before.before.before in
     let next = asked.before.before in
     let l = next.before.before in
-    let taken = l.loop.invariant.3 in
-    let there = ahead-next _ _ _ l.loop.invariant.2 next.read-record.ensures.0 in
-    let is = name-read _ _ l.loop.i there next.read-record.ensures.1 in
-    (omega arith, omega arith, there, taken_more taken is (asked.met.ensures _ (taken.known refl)) c.if1.false)
+    let taken = l.loop-i.invariant.3 in
+    let there = ahead-next _ _ _ l.loop-i.invariant.2 next.read_record-next.ensures.0 in
+    let is = name-read _ _ l.loop-i.i there next.read_record-next.ensures.1 in
+    (omega arith, omega arith, there, taken_more taken is (asked.met.ensures _ (taken.known refl)) c.if-met.false)
 
-returns-2 : tie.Need-returns-2 invariant-loop decreases-loop
+returns-2 : tie.Need-returns invariant-loop decreases-loop
 returns-2 c =
     let l = c.before in
-    let all : l.before.before.before.args.n ≡ l.loop.i = omega arith in
-    rw all l.loop.invariant.3
+    let all : l.before.before.before.args.n ≡ l.loop-i.i = omega arith in
+    rw all l.loop-i.invariant.3
 
-pub take-in-spec : {M : Type 1} → statement M
-take-in-spec =
+pub take_in_spec : {M : Type 1} → statement M
+take_in_spec =
     tie.close
     (tie.spec
     invariant-loop

@@ -10,32 +10,32 @@ use Rattle.rounds.specs.Laws.{ahead-next}
 use Rattle.rounds.proofs.ahead.Statement.{statement}
 use Rattle.rounds.proofs.ahead.Tie as tie
 
-abbrev invariant-loop : tie.invariant-loop
+abbrev invariant-loop : tie.invariant-loop-step
 invariant-loop cache field steps at₀ step₀ at step = (step ≤ steps) × (at ≡ ahead cache field step)
 
-abbrev decreases-loop : tie.decreases-loop
+abbrev decreases-loop : tie.decreases-loop-step
 decreases-loop cache field steps at₀ step₀ at step = steps - step
 
-loop-holds : tie.Need-loop-init invariant-loop decreases-loop
+loop-holds : tie.Need-loop-step-init invariant-loop decreases-loop
 unfolding ahead
 loop-holds c = (omega arith, refl)
 
-u32-at-requires : tie.Need-u32-at-requires invariant-loop decreases-loop
+u32-at-requires : tie.Need-u32_at-at-requires invariant-loop decreases-loop
 u32-at-requires c κs =
     let l = c.before in
-    omega (arith, l.loop.invariant.1, l.before.before.requires l.loop.step (search rules))
+    omega (arith, l.loop-step.invariant.1, l.before.before.requires l.loop-step.step (search rules))
 
-loop-again : tie.Need-loop-preserved invariant-loop decreases-loop
-loop-again c = (omega arith, ahead-next _ _ _ c.before.before.loop.invariant.1 c.u32-at.ensures)
+loop-again : tie.Need-loop-step-preserved invariant-loop decreases-loop
+loop-again c = (omega arith, ahead-next _ _ _ c.before.before.loop-step.invariant.1 c.u32_at-at.ensures)
 
 returns : tie.Need-returns invariant-loop decreases-loop
 returns c =
     let l = c.before in
     let a = l.before.before.args in
-    l.loop.invariant.1 ∙ ap (ahead a.cache.now a.field) (le_antisymm l.loop.invariant.0 (search rules))
+    l.loop-step.invariant.1 ∙ ap (ahead a.cache.now a.field) (le_antisymm l.loop-step.invariant.0 (search rules))
 
-pub ahead-spec : {M : Type 1} → statement M
-ahead-spec =
+pub ahead_spec : {M : Type 1} → statement M
+ahead_spec =
     tie.close
     (tie.spec
     invariant-loop

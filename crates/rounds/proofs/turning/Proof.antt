@@ -6,54 +6,54 @@ use Rattle.rounds.specs.Laws.{runs-from}
 use Rattle.rounds.proofs.turning.Statement.{statement}
 use Rattle.rounds.proofs.turning.Tie as tie
 
-find-requires : tie.Need-find-requires
+find-requires : tie.Need-find-seen-requires
 find-requires c κs =
     let pre = c.before.requires in
     (omega (arith, pre.1.1, pre.1.0 c.before.args.done (omega arith)), omega (arith, pre.0.1), pre.0.2)
 
-returns : tie.Need-returns
+returns : tie.Need-returns-then-seen-eq0
 returns c = record { onward = c.before.before.before.before.requires.0.0; within = omega arith; back = λ l. absurd (omega arith) }
 
-lead-in-requires : tie.Need-lead-in-requires
+lead-in-requires : tie.Need-lead_in-requires
 lead-in-requires c κs =
     let found = c.before.before.before in
     let pre = found.before.before.requires in
-    runs-from _ _ _ pre.1.1 pre.1.0 found.find.ensures
+    runs-from _ _ _ pre.1.1 pre.1.0 found.find-seen.ensures
 
 -- both sums are steps of the way to where the look found the round
-within : (c : tie.After-lead-in) →
+within : (c : tie.After-lead_in) →
     let found = c.before.before.before.before in
-    let a = found.before.before.args in c.lead-in.result + found.find.result.steps ≤ a.far
+    let a = found.before.before.args in c.lead_in.result + found.find-seen.result.steps ≤ a.far
 within c =
     let found = c.before.before.before.before in
-    omega (arith, c.lead-in.ensures.before, found.find.ensures.within, found.before.before.requires.0.0)
+    omega (arith, c.lead_in.ensures.before, found.find-seen.ensures.within, found.before.before.requires.0.0)
 
-back : (c : tie.After-lead-in) {n : ℕ} →
+back : (c : tie.After-lead_in) {n : ℕ} →
     let found = c.before.before.before.before in
     let a = found.before.before.args in
-    c.lead-in.result + found.find.result.steps ≤ n → ComesBack a.cache.now a.field n
+    c.lead_in.result + found.find-seen.result.steps ≤ n → ComesBack a.cache.now a.field n
 back c l = record {
-  first = c.lead-in.result;
-  second = c.lead-in.result + c.before.before.before.before.find.result.steps;
-  order = omega (arith, c.before.before.if1.false);
+  first = c.lead_in.result;
+  second = c.lead_in.result + c.before.before.before.before.find-seen.result.steps;
+  order = omega (arith, c.before.before.if-seen-eq0.false);
   within = l;
-  same = c.lead-in.ensures.back;
+  same = c.lead_in.ensures.back;
 }
 
-returns-2 : tie.Need-returns-2
+returns-2 : tie.Need-returns-then-back-done
 returns-2 c = record { onward = omega arith; within = omega (arith, within c.before); back = λ l. back c.before (omega arith) }
 
-returns-3 : tie.Need-returns-3
+returns-3 : tie.Need-returns-else-back-done
 returns-3 c = record { onward = omega arith; within = within c.before; back = λ l. back c.before (omega arith) }
 
-pub turning-spec : {M : Type 1} → statement M
-turning-spec =
+pub turning_spec : {M : Type 1} → statement M
+turning_spec =
     tie.close
     (tie.spec
     (λ c. c.before.requires.0.0)
     find-requires
     returns
-    (λ c. let found = c.before.before.before in omega (arith, found.find.ensures.within, found.before.before.requires.0))
+    (λ c. let found = c.before.before.before in omega (arith, found.find-seen.ensures.within, found.before.before.requires.0))
     lead-in-requires
     (λ c. omega (arith, within c, c.before.before.before.before.before.before.requires.0))
     returns-2

@@ -7,6 +7,6 @@ use Rattle.salvage.proofs.measure.Tie as tie
 returns : tie.Need-returns
 returns c = measured c.before.before.before.before.before.before.pass.ensures
 
-pub measure-spec : {M : Type 1} → statement M
-measure-spec =
+pub measure_spec : {M : Type 1} → statement M
+measure_spec =
     tie.close (tie.spec (λ c. search rules) (λ c. search rules) (λ c κs. search rules) (λ c. search rules) (λ c. search rules) returns)

@@ -15,77 +15,77 @@ use Rattle.salvage_reach.specs.Laws.Ahead.{ahead-ended, ahead-outside, ahead-mis
 use Rattle.salvage_reach.proofs.find_way.Statement.{statement}
 use Rattle.salvage_reach.proofs.find_way.Tie as tie
 
-abbrev invariant-loop : tie.invariant-loop
+abbrev invariant-loop : tie.invariant-loop-record
 invariant-loop cache t bucket field₀ mark₀ step₀ field mark step = (field + 4 ≤ length cache) × Ahead cache bucket field step mark
 
-abbrev decreases-loop : tie.decreases-loop
+abbrev decreases-loop : tie.decreases-loop-record
 decreases-loop cache t bucket field₀ mark₀ step₀ field mark step = 5 * length cache - step
 
-loop-holds : tie.Need-loop-init invariant-loop decreases-loop
+loop-holds : tie.Need-loop-record-init invariant-loop decreases-loop
 unfolding link_field
 loop-holds c =
     let start = c.before.before in
-    let field = c.bucket-field.ensures ∙ same-field start.requires.0 _ in
+    let field = c.bucket_field-field.ensures ∙ same-field start.requires.0 _ in
     (omega (arith, field-inside start.requires.0 _ start.requires.1), record { field = field; passes = λ m l. absurd (omega arith); marks = marks-start _ _ })
 
-look-requires : tie.Need-look-requires invariant-loop decreases-loop
-look-requires c κs = (c.before.before.before.requires.0, c.loop.invariant.0)
+look-requires : tie.Need-look-here-requires invariant-loop decreases-loop
+look-requires c κs = (c.before.before.before.requires.0, c.loop-record.invariant.0)
 
-returns : tie.Need-returns invariant-loop decreases-loop
+returns : tie.Need-returns-in-Ended invariant-loop decreases-loop
 returns c =
     let told = c.before in
     let looked = told.before.before in
-    rw c.reached-at.ensures (ahead-ended looked.before.loop.invariant.1 (rw told.enum_told.given.1 at looked.look.ensures))
+    rw c.reached_at.ensures (ahead-ended looked.before.loop-record.invariant.1 (rw told.enum_told-1.given.1 at looked.look-here.ensures))
 
-returns-2 : tie.Need-returns-2 invariant-loop decreases-loop
+returns-2 : tie.Need-returns-in-Outside invariant-loop decreases-loop
 returns-2 c =
     let told = c.before in
     let looked = told.before.before in
-    rw c.reached-at2.ensures (ahead-outside looked.before.loop.invariant.1 (rw told.enum-told2.given.1 at looked.look.ensures))
+    rw c.reached_at-in-Outside.ensures (ahead-outside looked.before.loop-record.invariant.1 (rw told.enum_told-in-Outside-1.given.1 at looked.look-here.ensures))
 
-add-reached-at : tie.Need-overflow-add-reached-at invariant-loop decreases-loop
-add-reached-at c = let l = c.before.before.before in omega (arith, marks-few l.loop.invariant.1.marks, valid-header l.before.before.before.requires.0)
+add-reached-at : tie.Need-overflow_add-step invariant-loop decreases-loop
+add-reached-at c = let l = c.before.before.before in omega (arith, marks-few l.loop-record.invariant.1.marks, valid-header l.before.before.before.requires.0)
 
-returns-3 : tie.Need-returns-3 invariant-loop decreases-loop
+returns-3 : tie.Need-returns-in-Misnamed invariant-loop decreases-loop
 returns-3 c =
     let told = c.before in
     let looked = told.before.before in
-    rw c.reached-at3.ensures (ahead-misnamed looked.before.loop.invariant.1 (rw told.enum-told3.given.1 at looked.look.ensures))
+    rw c.reached_at-in-Misnamed.ensures (ahead-misnamed looked.before.loop-record.invariant.1 (rw told.enum_told-in-Misnamed-1.given.1 at looked.look-here.ensures))
 
-sub-t14 : tie.Need-overflow-sub-t14 invariant-loop decreases-loop
-sub-t14 c = c.before.before.before.before.before.before.before.loop.invariant.1.marks.behind-it
+sub-t14 : tie.Need-overflow_sub-result invariant-loop decreases-loop
+sub-t14 c = c.before.before.before.before.before.before.before.loop-record.invariant.1.marks.behind-it
 
-returns-4 : tie.Need-returns-4 invariant-loop decreases-loop
+returns-4 : tie.Need-returns-then-record-mark invariant-loop decreases-loop
 returns-4 c =
     let here = c.before.before.before.before in
     let looked = here.before.before in
-    ahead-round looked.before.loop.invariant.1 (rw here.here.given.1 at looked.look.ensures) c.before.if1.true
+    ahead-round looked.before.loop-record.invariant.1 (rw here.here-1.given.1 at looked.look-here.ensures) c.before.if-record-mark.true
 
-move-up-requires : tie.Need-move-up-requires invariant-loop decreases-loop
+move-up-requires : tie.Need-move_up-mark-requires invariant-loop decreases-loop
 move-up-requires c κs =
     let l = c.before.before.before.before.before.before in
-    omega (arith, marks-few l.loop.invariant.1.marks, valid-header l.before.before.before.requires.0)
+    omega (arith, marks-few l.loop-record.invariant.1.marks, valid-header l.before.before.before.requires.0)
 
-add_step : tie.Need-overflow-add-step invariant-loop decreases-loop
+add_step : tie.Need-overflow_add-step-in-Passes invariant-loop decreases-loop
 add_step c =
     let l = c.before.before.before.before.before.before.before in
-    omega (arith, marks-few l.loop.invariant.1.marks, valid-header l.before.before.before.requires.0)
+    omega (arith, marks-few l.loop-record.invariant.1.marks, valid-header l.before.before.before.requires.0)
 
-loop-less : tie.Need-loop-smaller invariant-loop decreases-loop
+loop-less : tie.Need-loop-record-smaller invariant-loop decreases-loop
 loop-less c =
     let l = c.before.before.before.before.before.before.before in
-    omega (arith, marks-few l.loop.invariant.1.marks, valid-header l.before.before.before.requires.0)
+    omega (arith, marks-few l.loop-record.invariant.1.marks, valid-header l.before.before.before.requires.0)
 
-loop-again : tie.Need-loop-preserved invariant-loop decreases-loop
+loop-again : tie.Need-loop-record-preserved invariant-loop decreases-loop
 loop-again c =
     let here = c.before.before.before.before in
     let looked = here.before.before in
     let l = looked.before in
-    let told = rw here.here.given.1 at looked.look.ensures in
-    (omega (arith, told.0, told.1), rw c.move_up.ensures (ahead-again l.loop.invariant.1 told c.before.if1.false))
+    let told = rw here.here-1.given.1 at looked.look-here.ensures in
+    (omega (arith, told.0, told.1), rw c.move_up-mark.ensures (ahead-again l.loop-record.invariant.1 told c.before.if-record-mark.false))
 
-pub find-way-spec : {M : Type 1} → statement M
-find-way-spec =
+pub find_way_spec : {M : Type 1} → statement M
+find_way_spec =
     tie.close
     (tie.spec
     invariant-loop
@@ -93,17 +93,17 @@ find-way-spec =
     (λ c κs. search rules)
     loop-holds
     look-requires
-    (λ c. c.match.keys1)
+    (λ c. c.in-Ended.keys1)
     (λ c κs. search rules)
     returns
-    (λ c. c.match.keys2)
+    (λ c. c.in-Ended.keys2)
     (λ c κs. search rules)
     returns-2
-    (λ c. c.match.keys3)
+    (λ c. c.in-Ended.keys3)
     add-reached-at
     (λ c κs. search rules)
     returns-3
-    (λ c. c.match.keys4)
+    (λ c. c.in-Ended.keys4)
     sub-t14
     returns-4
     move-up-requires

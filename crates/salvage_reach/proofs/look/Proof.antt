@@ -1,28 +1,29 @@
 -- `salvage_reach::look` meets its contract: each way out says what the field names.
 use mathlib.Core.Path.{sym, ◌∙◌}
+use mathlib.Core.Bool.{false≢true}
 use borrow.Author.Rules.{rules}
 use Rattle.format.specs.Laws.Faults.{same_number}
 use Rattle.salvage_reach.proofs.look.Statement.{statement}
 use Rattle.salvage_reach.proofs.look.Tie as tie
 
-judge-name-requires : tie.Need-judge-name-requires
-judge-name-requires c κs = (c.before.before.before.before.requires.0, c.if2.false)
+judge-name-requires : tie.Need-judge_name-fault-requires
+judge-name-requires c κs = (c.before.before.before.before.requires.0, (c.if-cache-record.false, λ e. absurd (false≢true e)))
 
-returns-3 : tie.Need-returns-3
+returns-3 : tie.Need-returns-then-fault-ne0
 returns-3 c =
     let judged = c.before.before in
     let read = judged.before.before.before in
-    let e = read.u32-at.ensures in (
-      (rw e at judged.before.before.if1.false, rw e at judged.before.if2.false),
-      λ z. c.if3.true (same_number judged.judge-name.ensures ∙ rw e z),
+    let e = read.u32_at-named.ensures in (
+      (rw e at judged.before.before.if-named.false, rw e at judged.before.if-cache-record.false),
+      λ z. c.if-fault-ne0.true (same_number judged.judge_name-fault.ensures ∙ rw e z),
     )
 
-returns-4 : tie.Need-returns-4
+returns-4 : tie.Need-returns
 returns-4 c =
     let judged = c.before.before in
     let read = judged.before.before.before in
-    let e = read.u32-at.ensures in
-    (e, (rw e at judged.before.before.if1.false, rw e at judged.before.if2.false), rw e at (sym (same_number judged.judge-name.ensures) ∙ c.if3.false))
+    let e = read.u32_at-named.ensures in
+    (e, (rw e at judged.before.before.if-named.false, rw e at judged.before.if-cache-record.false), rw e at (sym (same_number judged.judge_name-fault.ensures) ∙ c.if-fault-ne0.false))
 
 pub look_spec : {M : Type 1} → statement M
 look_spec =

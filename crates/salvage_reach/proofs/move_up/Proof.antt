@@ -4,11 +4,11 @@ use borrow.Author.Rules.{rules}
 use Rattle.salvage_reach.proofs.move_up.Statement.{statement}
 use Rattle.salvage_reach.proofs.move_up.Tie as tie
 
-returns : tie.Need-returns
-returns c = rw (eq-eqb _ _ c.if1.true)
+returns : tie.Need-returns-then-step-mark
+returns c = rw (eq-eqb _ _ c.if-step-mark.true)
 
-returns-2 : tie.Need-returns-2
-returns-2 c = rw (ne_eqb _ _ c.if1.false)
+returns-2 : tie.Need-returns-else-step-mark
+returns-2 c = rw (ne_eqb _ _ c.if-step-mark.false)
 
 pub move_up_spec : {M : Type 1} → statement M
 move_up_spec = tie.close (tie.spec (λ c. search rules) (λ c. search rules) returns returns-2)

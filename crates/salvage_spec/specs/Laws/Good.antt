@@ -2,7 +2,7 @@
 use Prim.Native.Nat.{ℕ, zero, suc, ◌+◌, ◌^◌, ◌≤◌, ◌<◌}
 use Rattle.std.specs.Prelude.{◌≡◌, Bool, eqb, leb}
 use Rattle.std.proofs.Math.Path.{refl}
-use Rattle.std.proofs.Common.{sym, ◌∙◌}
+use Rattle.std.proofs.Common.{sym, ◌∙◌, pow-suc}
 use mathlib.Core.List.{List, [], ◌∷◌}
 use Rattle.std.proofs.Math.Bool.{true, false, not, and-eq-true_iff}
 use native.Mathlib.Omega.{arith}
@@ -18,7 +18,6 @@ use Rattle.format.specs.Words.{link}
 use Rattle.format.specs.Laws.Header.{header-valid}
 use Rattle.format.specs.Laws.Records.{name-valid}
 use Rattle.format.specs.Laws.Texts.{whole-allowed}
-use Rattle.format.specs.Laws.Reads.{be-below}
 use Rattle.format.specs.Laws.Images.{names-directory}
 use Rattle.catalogue.specs.Catalogue.{Image, Icon, Each, icon_is, names, NoneTwice, allowed_image, GoodImage, GoodIcon, Good}
 use Rattle.catalogue.specs.Fields.{AreBytes}
@@ -29,6 +28,12 @@ use Rattle.salvage_spec.specs.Laws.Lists.{few-joined, each-joined, any-two-at}
 use Rattle.salvage_spec.specs.Laws.Paths.{paths-few, paths-good, index_below}
 use Rattle.salvage_spec.specs.Laws.Kept.{Kept, kept-right}
 use Rattle.salvage_spec.specs.Laws.Names.{of-kept, names-differ}
+
+-- numbers of w bytes are below 256 to the w
+be-below : (s : List ℕ) → AreBytes s → (w p : ℕ) → be w s p < 256 ^ w
+unfolding be
+be-below s small zero p = omega arith
+be-below s small (suc w) p = rw (pow-suc 256 w) (omega (arith, be-below s small w p, small (p + w)))
 
 module _ (s : List ℕ) where
   image-few : (p : ℕ) → length (kept_image s p) ≤ 1

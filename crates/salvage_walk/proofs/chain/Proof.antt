@@ -20,25 +20,25 @@ use Rattle.salvage_walk.specs.Laws.End.{walks-uncut, walks-cut, walks-many}
 use Rattle.salvage_walk.proofs.chain.Statement.{statement}
 use Rattle.salvage_walk.proofs.chain.Tie as tie
 
-abbrev invariant-loop : tie.invariant-loop
+abbrev invariant-loop : tie.invariant-loop-step
 invariant-loop cache t closed bucket index₀ catalogue₀ report₀ sums met cut field₀ so-far₀ step₀ index catalogue report field so_far step =
     (length index ≡ length index₀) × Steps cache bucket catalogue₀ catalogue report₀ report index field step sums so_far
 
-abbrev decreases-loop : tie.decreases-loop
+abbrev decreases-loop : tie.decreases-loop-step
 decreases-loop cache t closed bucket index₀ catalogue₀ report₀ sums met cut field₀ so-far₀ step₀ index catalogue report field so_far step = met - step
 
-abbrev start : tie.At-loop invariant-loop decreases-loop → tie.Start invariant-loop decreases-loop
+abbrev start : tie.At-loop-step invariant-loop decreases-loop → tie.Start invariant-loop decreases-loop
 start l = l.before.before.before.before.before.before.before.before.before
 
-loop-holds : tie.Need-loop-init invariant-loop decreases-loop
+loop-holds : tie.Need-loop-step-init invariant-loop decreases-loop
 loop-holds c =
     let s = c.before.before.before.before.before.before.before.before in
-    (refl, steps_first _ _ _ _ _ _ (c.bucket-field.ensures ∙ same-field s.requires.0.0 _))
+    (refl, steps_first _ _ _ _ _ _ (c.bucket_field-field.ensures ∙ same-field s.requires.0.0 _))
 
 -- how far the chain goes, and how long the cache is
-module _ (l : tie.At-loop invariant-loop decreases-loop) where
-  met-is : definition.met (start l).args.cache.now (start l).args.bucket ≡ l.before.before.before.reach.result.met
-  met-is = l.before.before.before.reach.ensures.met
+module _ (l : tie.At-loop-step invariant-loop decreases-loop) where
+  met-is : definition.met (start l).args.cache.now (start l).args.bucket ≡ l.before.before.before.reach-reached.result.met
+  met-is = l.before.before.before.reach-reached.ensures.met
 
   short : length (start l).args.cache.now ≤ 2 ^ 24
   short = (valid-header (start l).pre.0.0).not-too-long
@@ -46,78 +46,78 @@ module _ (l : tie.At-loop invariant-loop decreases-loop) where
   bucket-inside : bucket_field (start l).args.cache.now (start l).args.bucket + 4 ≤ length (start l).args.cache.now
   bucket-inside = field-inside (start l).pre.0.0 (start l).args.bucket (start l).pre.0.2
 
-  fits : (l.loop.so_far.bytes < 2 ^ 58) × (l.loop.so_far.words < 2 ^ 58)
-  fits = steps-fits l.loop.inv.1 short (start l).pre.1.1 (start l).pre.1.2
+  fits : (l.loop-step.so_far.bytes < 2 ^ 58) × (l.loop-step.so_far.words < 2 ^ 58)
+  fits = steps-fits l.loop-step.inv.1 short (start l).pre.1.1 (start l).pre.1.2
 
 -- a step that is to be made
-module _ (e : tie.Else1 invariant-loop decreases-loop) where
-  abbrev at : tie.At-loop invariant-loop decreases-loop
+module _ (e : tie.Else-so_far-gt65535 invariant-loop decreases-loop) where
+  abbrev at : tie.At-loop-step invariant-loop decreases-loop
   at = e.before.before.before
 
-  below : at.loop.step < definition.met (start at).args.cache.now (start at).args.bucket
+  below : at.loop-step.step < definition.met (start at).args.cache.now (start at).args.bucket
   below = omega (arith, met-is at)
 
-module _ (c : tie.After-u32-at invariant-loop decreases-loop) where
-  abbrev turn : tie.Else1 invariant-loop decreases-loop
+module _ (c : tie.After-u32_at-record invariant-loop decreases-loop) where
+  abbrev turn : tie.Else-so_far-gt65535 invariant-loop decreases-loop
   turn = c.before
 
-  next : c.u32-at.result ≡ link (start (at turn)).args.cache.now (start (at turn)).args.bucket (at turn).loop.step
-  next = steps-link (at turn).loop.inv.1 c.u32-at.ensures
+  next : c.u32_at-record.result ≡ link (start (at turn)).args.cache.now (start (at turn)).args.bucket (at turn).loop-step.step
+  next = steps-link (at turn).loop-step.inv.1 c.u32_at-record.ensures
 
-  inside : c.u32-at.result + 12 ≤ length (start (at turn)).args.cache.now
-  inside = steps-inside (at turn).loop.inv.1 (below turn) next
+  inside : c.u32_at-record.result + 12 ≤ length (start (at turn)).args.cache.now
+  inside = steps-inside (at turn).loop-step.inv.1 (below turn) next
 
-meet-requires : tie.Need-meet-requires invariant-loop decreases-loop
+meet-requires : tie.Need-meet-fault-requires invariant-loop decreases-loop
 meet-requires c κs =
     let read = c.before.before.before in
     let l = at (turn read) in
-    ((start l).pre.0.0, inside read, omega (arith, l.loop.inv.0, (start l).pre.0.3, (turn read).if1.false))
+    ((start l).pre.0.0, inside read, omega (arith, l.loop-step.inv.0, (start l).pre.0.3, (turn read).if-so_far-gt65535.false))
 
-add-requires : tie.Need-add-requires invariant-loop decreases-loop
+add-requires : tie.Need-add-so_far-requires invariant-loop decreases-loop
 add-requires c κs =
     let met = c.before.before.before.before in
     let read = met.before.before.before.before in
     let l = at (turn read) in
     let s = (start l).args.cache.now in
-    let judged = (met.meet.ensures _ (steps-names l.loop.inv.1)).fate in
-    let place = fate-within s (start l).args.bucket (definition.kept_names s (start l).args.bucket l.loop.step) read.u32-at.result in (
-      ((start l).pre.0.0, (start l).pre.0.1, steps-kept l.loop.inv.1 (below (turn read)) (next read) judged),
-      (omega (arith, ap (λ (y : Fault). y.place) judged, place, inside read, short l), omega (arith, (turn read).if1.false), (fits l).0, (fits l).1),
+    let judged = (met.meet-fault.ensures _ (steps-names l.loop-step.inv.1)).fate in
+    let place = fate-within s (start l).args.bucket (definition.kept_names s (start l).args.bucket l.loop-step.step) read.u32_at-record.result in (
+      ((start l).pre.0.0, (start l).pre.0.1, steps-kept l.loop-step.inv.1 (below (turn read)) (next read) judged),
+      (omega (arith, ap (λ (y : Fault). y.place) judged, place, inside read, short l), omega (arith, (turn read).if-so_far-gt65535.false), (fits l).0, (fits l).1),
     )
 
-loop-again : tie.Need-loop-preserved invariant-loop decreases-loop
+loop-again : tie.Need-loop-step-preserved invariant-loop decreases-loop
 loop-again c =
     let added = c.before.before.before.before in
     let met = added.before.before.before.before.before in
     let read = met.before.before.before.before in
     let l = at (turn read) in (
       omega arith,
-      steps_next l.loop.inv.1 (below (turn read)) (next read) (met.meet.ensures _ (steps-names l.loop.inv.1)) added.add.ensures,
+      steps_next l.loop-step.inv.1 (below (turn read)) (next read) (met.meet-fault.ensures _ (steps-names l.loop-step.inv.1)) added.add-so_far.ensures,
     )
 
-returns-2 : tie.Need-returns-2 invariant-loop decreases-loop
+returns-2 : tie.Need-returns-then-cut-eq0 invariant-loop decreases-loop
 returns-2 c =
     let done = c.before.before in
     let l = done.before in
-    walks-uncut l.loop.invariant.1 (omega (arith, met-is l)) (short l) (same_number l.before.before.before.reach.ensures.cut ∙ c.if2.true)
+    walks-uncut l.loop-step.invariant.1 (omega (arith, met-is l)) (short l) (same_number l.before.before.before.reach-reached.ensures.cut ∙ c.if-cut-eq0.true)
 
-row-requires : tie.Need-row-requires invariant-loop decreases-loop
+row-requires : tie.Need-row-words-requires invariant-loop decreases-loop
 row-requires c κs =
     let l = c.before.before.before.before in
     let s = start l in
     let place = cut-within s.args.cache.now s.args.bucket (bucket-inside l) in
-    let cut = ap (λ (v : Fault). v.place) l.before.before.before.reach.ensures.cut in
+    let cut = ap (λ (v : Fault). v.place) l.before.before.before.reach-reached.ensures.cut in
     (omega (arith, fits l), omega (arith, place, cut, short l))
 
-returns-3 : tie.Need-returns-3 invariant-loop decreases-loop
+returns-3 : tie.Need-returns invariant-loop decreases-loop
 returns-3 c =
     let put = c.before.before in
     let done = put.before.before.before.before in
     let l = done.before in
-    walks-cut l.loop.invariant.1 (omega (arith, met-is l)) (short l) l.before.before.before.reach.ensures.cut put.before.before.if2.false put.row.ensures
+    walks-cut l.loop-step.invariant.1 (omega (arith, met-is l)) (short l) l.before.before.before.reach-reached.ensures.cut put.before.before.if-cut-eq0.false put.row-words.ensures
 
-pub chain-spec : {M : Type 1} → statement M
-chain-spec =
+pub chain_spec : {M : Type 1} → statement M
+chain_spec =
     tie.close
     (tie.spec
     invariant-loop
@@ -125,24 +125,24 @@ chain-spec =
     (λ c κs. let s = c.before.before.before.before.before in (s.requires.0.0, s.requires.0.2))
     (λ c κs. search rules)
     loop-holds
-    (λ c. c.before.before.before.loop.invariant.0)
-    (λ c. c.before.before.before.loop.invariant.1.grows.bytes.same)
-    (λ c. c.before.before.before.loop.invariant.1.grows.words.same)
-    (λ c. walks-many c.before.before.before.loop.invariant.1 c.if1.true)
-    (λ e κs. steps-field (at e).loop.inv.1 (at e).loop.inv.1.within (bucket-inside (at e)))
+    (λ c. c.before.before.before.loop-step.invariant.0)
+    (λ c. c.before.before.before.loop-step.invariant.1.grows.bytes.same)
+    (λ c. c.before.before.before.loop-step.invariant.1.grows.words.same)
+    (λ c. walks-many c.before.before.before.loop-step.invariant.1 c.if-so_far-gt65535.true)
+    (λ e κs. steps-field (at e).loop-step.inv.1 (at e).loop-step.inv.1.within (bucket-inside (at e)))
     (λ c. search rules)
-    (λ c. omega (arith, (at (turn c.before.before.before)).loop.inv.1.grows.icons))
+    (λ c. omega (arith, (at (turn c.before.before.before)).loop-step.inv.1.grows.icons))
     meet-requires
     add-requires
     (λ c. let e = c.before.before.before.before.before.before.before.before.before.before.before.before.before.before in omega (arith, below e, short (at e), met-few (start (at e)).args.cache.now (start (at e)).args.bucket))
     (λ c. omega arith)
     loop-again
-    (λ c. c.before.before.before.loop.invariant.0)
-    (λ c. c.before.before.before.loop.invariant.1.grows.bytes.same)
-    (λ c. c.before.before.before.loop.invariant.1.grows.words.same)
+    (λ c. c.before.before.before.loop-step.invariant.0)
+    (λ c. c.before.before.before.loop-step.invariant.1.grows.bytes.same)
+    (λ c. c.before.before.before.loop-step.invariant.1.grows.words.same)
     returns-2
     row-requires
-    (λ c. c.before.before.before.before.before.before.before.loop.invariant.0)
-    (λ c. c.before.before.before.before.before.before.before.loop.invariant.1.grows.bytes.same)
+    (λ c. c.before.before.before.before.before.before.before.loop-step.invariant.0)
+    (λ c. c.before.before.before.before.before.before.before.loop-step.invariant.1.grows.bytes.same)
     (λ c. search rules)
     returns-3)

@@ -23,63 +23,63 @@ use Rattle.search.specs.Seek.{SeeksTo}
 use Rattle.search.proofs.stretch.Statement.{statement}
 use Rattle.search.proofs.stretch.Tie as tie
 
-abbrev invariant-loop : tie.invariant-loop
+abbrev invariant-loop : tie.invariant-loop-record
 invariant-loop cache t bucket name field₀ opened₀ stop field opened = (opened ≤ stop) × Stands cache bucket field opened × NoneBelow cache name bucket opened
 
-abbrev decreases-loop : tie.decreases-loop
+abbrev decreases-loop : tie.decreases-loop-record
 decreases-loop cache t bucket name field₀ opened₀ stop field opened = stop - opened
 
-returns : tie.Need-returns invariant-loop decreases-loop
+returns : tie.Need-returns-in_default invariant-loop decreases-loop
 returns c =
     let step = c.before in
-    let (few, stands, none) = step.before.before.loop.invariant in
+    let (few, stands, none) = step.before.before.loop-record.invariant in
     record {
-      field = step.before.before.loop.field;
-      passed = step.before.before.loop.opened;
+      field = step.before.before.loop-record.field;
+      passed = step.before.before.loop-record.opened;
       stands = stands;
       few = few;
       none = none;
-      next = step.before.seek.ensures.next;
-      opened = ap (λ n. step.before.before.loop.opened + n) step.opens.ensures;
+      next = step.before.seek-seen.ensures.next;
+      opened = ap (λ n. step.before.before.loop-record.opened + n) step.opens-opened.ensures;
       met = λ r q b. absurd (false≢true b);
-      unmet = λ r q b. absurd (⊎_elim (λ z. omega arith) (λ z. omega arith) (rw q at c.match.keys2));
+      unmet = λ r q b. absurd (⊎_elim (λ z. omega arith) (λ z. omega arith) (rw q at c.in-Record.keys2));
     }
 
 -- a turn that leads to a record: where it began, what its field leads to, and that it opens one
-abbrev turn : tie.After-known-told invariant-loop decreases-loop → tie.At-loop invariant-loop decreases-loop
+abbrev turn : tie.In-Record invariant-loop decreases-loop → tie.At-loop-record invariant-loop decreases-loop
 turn c = c.before.before.before.before.before
 
-abbrev start : tie.After-known-told invariant-loop decreases-loop → tie.Start invariant-loop decreases-loop
+abbrev start : tie.In-Record invariant-loop decreases-loop → tie.Start invariant-loop decreases-loop
 start c = (turn c).before.before.before
 
-module _ (c : tie.After-known-told invariant-loop decreases-loop) where
+module _ (c : tie.In-Record invariant-loop decreases-loop) where
   abbrev met : ℕ
-  met = c.before.next.given.0.0
+  met = c.before.next-1.given.0.0
 
-  led : let a = (start c).args in follow Short a.cache.now a.bucket (turn c).loop.field ≡ Record met
-  led = sym c.before.before.before.before.seek.ensures.next ∙ c.before.next.given.1
+  led : let a = (start c).args in follow Short a.cache.now a.bucket (turn c).loop-record.field ≡ Record met
+  led = sym c.before.before.before.before.seek-seen.ensures.next ∙ c.before.next-1.given.1
 
-  opened : (turn c).loop.opened + c.before.before.before.opens.result ≡ (turn c).loop.opened + 1
-  opened = ap (λ n. (turn c).loop.opened + n) (c.before.before.before.opens.ensures ∙ ap opens c.before.next.given.1)
+  opened : (turn c).loop-record.opened + c.before.before.before.opens-opened.result ≡ (turn c).loop-record.opened + 1
+  opened = ap (λ n. (turn c).loop-record.opened + n) (c.before.before.before.opens-opened.ensures ∙ ap opens c.before.next-1.given.1)
 
   bears : {r : ℕ} → ◌≡◌ {A = _} (Record met) (Record r)
       → let a = (start c).args in
-      c.before.before.before.before.seek.result.bears ≡ same_bytes (name_of a.cache.now r) a.name.now
-  bears q = c.before.before.before.before.seek.ensures.bears _ (c.before.next.given.1 ∙ q)
+      c.before.before.before.before.seek-seen.result.bears ≡ same_bytes (name_of a.cache.now r) a.name.now
+  bears q = c.before.before.before.before.seek-seen.ensures.bears _ (c.before.next-1.given.1 ∙ q)
 
   small : length (start c).args.cache.now ≤ 16777216
   small = omega (arith, valid-header (start c).requires.0)
 
   -- the answer, whether the record bears the name or is the last that may be looked at
-  tells : (b : Bool) → c.before.before.before.before.seek.result.bears ≡ b → (b ≡ false → (turn c).loop.opened ≡ (start c).args.stop)
+  tells : (b : Bool) → c.before.before.before.before.seek-seen.result.bears ≡ b → (b ≡ false → (turn c).loop-record.opened ≡ (start c).args.stop)
       → let a = (start c).args in
       SeeksTo a.cache.now a.name.now a.bucket a.stop
-      (record { opened = (turn c).loop.opened + c.before.before.before.opens.result; next = Record met; bears = b })
+      (record { opened = (turn c).loop-record.opened + c.before.before.before.opens-opened.result; next = Record met; bears = b })
   tells b known full =
-      let (few, stands, none) = (turn c).loop.invariant in
+      let (few, stands, none) = (turn c).loop-record.invariant in
       record {
-        field = (turn c).loop.field;
-        passed = (turn c).loop.opened;
+        field = (turn c).loop-record.field;
+        passed = (turn c).loop-record.opened;
         stands = stands;
         few = few;
         none = none;
@@ -89,33 +89,33 @@ module _ (c : tie.After-known-told invariant-loop decreases-loop) where
         unmet = λ r q is. (other-unequal _ _ (sym (bears q) ∙ known ∙ is), full is);
       }
 
-returns-2 : tie.Need-returns-2 invariant-loop decreases-loop
-returns-2 c = tells c.before true c.if1.true (λ is. absurd (false≢true (sym is)))
+returns-2 : tie.Need-returns-then-seen invariant-loop decreases-loop
+returns-2 c = tells c.before true c.if-seen.true (λ is. absurd (false≢true (sym is)))
 
-returns-3 : tie.Need-returns-3 invariant-loop decreases-loop
+returns-3 : tie.Need-returns-then-stop-opened invariant-loop decreases-loop
 returns-3 c =
     let told = c.before.before in
-    tells told false c.before.if1.false (λ is. omega (arith, opened told, c.if2.true, (turn told).loop.invariant.0))
+    tells told false c.before.if-seen.false (λ is. omega (arith, opened told, c.if-stop-opened.true, (turn told).loop-record.invariant.0))
 
 -- the record does not bear it, and may be passed
-loop-again : tie.Need-loop-preserved invariant-loop decreases-loop
+loop-again : tie.Need-loop-record-preserved invariant-loop decreases-loop
 loop-again c =
     let told = c.before.before in
-    let (few, stands, none) = (turn told).loop.invariant in
-    let other = other-unequal _ _ (sym (bears told refl) ∙ c.before.if1.false) in
+    let (few, stands, none) = (turn told).loop-record.invariant in
+    let other = other-unequal _ _ (sym (bears told refl) ∙ c.before.if-seen.false) in
     let more = below_suc none (λ e. other (ap (name_of _) (leads-link stands (small told) (led told)) ∙ e)) in
-    (c.if2.false, leads-on stands (small told) (led told) (opened told), λ m l. more m (omega (arith, opened told)))
+    (c.if-stop-opened.false, leads-on stands (small told) (led told) (opened told), λ m l. more m (omega (arith, opened told)))
 
-pub stretch-spec : {M : Type 1} → statement M
-stretch-spec =
+pub stretch_spec : {M : Type 1} → statement M
+stretch_spec =
     tie.close
     (tie.spec
     invariant-loop
     decreases-loop
     (λ c. let pre = c.before.before.requires in (pre.1.1.1.0, pre.1.1.0.0, pre.1.1.0.1))
-    (λ c κs. let pre = c.before.before.before.requires in (pre.0, (c.loop.invariant.1.inside, pre.1.0)))
+    (λ c κs. let pre = c.before.before.before.requires in (pre.0, (c.loop-record.invariant.1.inside, pre.1.0)))
     (λ c κs. search rules)
-    (λ c. omega (arith, opens_one c.before.seek.result.next, c.opens.ensures, c.before.before.loop.invariant.0))
+    (λ c. omega (arith, opens_one c.before.seek-seen.result.next, c.opens-opened.ensures, c.before.before.loop-record.invariant.0))
     (λ c. search rules)
     returns
     returns-2

@@ -18,7 +18,7 @@ use Rattle.squeeze.specs.Laws.Whole.{lists, folders, empty-front, filled-same, f
 use Rattle.squeeze.proofs.fill.Statement.{statement}
 use Rattle.squeeze.proofs.fill.Tie as tie
 
-abbrev start : tie.After-clear-arg → tie.Start
+abbrev start : tie.After-clear-arg-1 → tie.Start
 start c = c.before.before.before.before.before.before.before.before.before
 
 -- where the parts begin, by the numbers at hand
@@ -70,19 +70,19 @@ module _ (c : tie.After-lists) where
       let (end, h) = c.lists.ensures s₂.args.out.now (lists s₂.args.cache.now) (filled-same (sym p.table_is) (sym p.first-is) (filled₁ (cleared c))) in
       (end, filled-all p.table_is s₂.pre.2.icons h)
 
-abbrev listed : tie.After-paths → tie.After-lists
+abbrev listed : tie.After-paths-texts → tie.After-lists
 listed c = c.before.before.before.before.before.before.before.before.before.before
 
 -- the paths are put
-module _ (c : tie.After-paths) where
+module _ (c : tie.After-paths-texts) where
   abbrev s₃ : tie.Start
   s₃ = s₂ (listed c)
 
   pathed₃ : let x = s₃.args.cache.now in
-      Pathed x (listed c).lists.new.1.1.1.1.1.0 c.paths.new.1.1.1.1.0 c.paths.new.1.1.0 c.paths.new.1.1.1.0 (folders x) (strings x) (directories x) c.paths.result
-  pathed₃ = let p = places_of s₃ in pathed-same p.folders-is p.strings-is c.paths.ensures
+      Pathed x (listed c).lists.new.1.1.1.1.1.0 c.paths-texts.new.1.1.1.1.0 c.paths-texts.new.1.1.0 c.paths-texts.new.1.1.1.0 (folders x) (strings x) (directories x) c.paths-texts.result
+  pathed₃ = let p = places_of s₃ in pathed-same p.folders-is p.strings-is c.paths-texts.ensures
 
-abbrev pathed-of : tie.After-tables → tie.After-paths
+abbrev pathed-of : tie.After-tables → tie.After-paths-texts
 pathed-of c = c.before.before.before.before.before.before.before.before
 
 -- the header and the hash are put
@@ -90,11 +90,11 @@ module _ (c : tie.After-tables) where
   abbrev s₄ : tie.Start
   s₄ = s₃ (pathed-of c)
 
-  headed₄ : let x = s₄.args.cache.now in c.tables.new.0 ≡ put (pathed-of c).paths.new.1.1.1.1.0 0 (front (contents x) (buckets x) (places x) 0)
+  headed₄ : let x = s₄.args.cache.now in c.tables.new.0 ≡ put (pathed-of c).paths-texts.new.1.1.1.1.0 0 (front (contents x) (buckets x) (places x) 0)
   headed₄ =
       let p = places_of s₄ in
       let x = s₄.args.cache.now in
-      c.tables.ensures ∙ ap (put (pathed-of c).paths.new.1.1.1.1.0 0) (empty-front x p.folders-is (same-buckets s₄.pre.0.tables))
+      c.tables.ensures ∙ ap (put (pathed-of c).paths-texts.new.1.1.1.1.0 0) (empty-front x p.folders-is (same-buckets s₄.pre.0.tables))
 
   ready₄ : Ready s₄.args.cache.now c.tables.new.0
   ready₄ = ready s₄.pre.3 (filled₂ (listed (pathed-of c))).1 (pathed₃ (pathed-of c)) headed₄
@@ -110,7 +110,7 @@ lists-requires c κs =
       (x.pre.2.icons, record { lent = x.args.out.now; at = lists x.args.cache.now; filled = filled-same (sym p.table_is) (sym p.first-is) (filled₁ clear) }),
     )
 
-paths-requires : tie.Need-paths-requires
+paths-requires : tie.Need-paths-texts-requires
 paths-requires c κs =
     let l = c.before.before.before.before.before.before.before.before.before in
     let x = s₂ l in
@@ -124,7 +124,7 @@ tables-requires c κs =
     let q = c.before.before.before.before.before.before.before in
     let x = s₃ q in
     let p = places_of x in
-    let k = q.paths.auto in
+    let k = q.paths-texts.auto in
     let j = (listed q).lists.auto in
     let i = (cleared (listed q)).clear.auto in
     (omega (arith, p.first-is, p.folders-is, p.room, k, j, i), omega (arith, p.first-is, p.folders-is, p.strings-is, p.short), omega (arith, p.folders-is, p.strings-is, p.short))
@@ -137,7 +137,7 @@ records-requires c κs =
     let w = x.pre.1 in
     let few = (pathed₃ q).most in
     let v = valid-header x.pre.0.tables in
-    let k = q.paths.kept in
+    let k = q.paths-texts.kept in
     let j = (listed q).lists.kept in (
       (x.pre.0, w.marked, omega (arith, w.index-wide, k, j, few, v), omega (arith, w.places-wide, k, j, few, v)),
       (((pathed₃ q).known, (pathed₃ q).ends), (x.pre.2.icons, ready₄ h)),
@@ -179,5 +179,5 @@ fill_spec =
     records-requires
     (λ c. search rules)
     (λ c. search rules)
-    (λ c. let r = c.before.before in let h = headed-of r in let q = pathed-of h in omega (arith, r.«records».auto, h.tables.kept, q.paths.kept, (listed q).lists.kept, (cleared (listed q)).clear.auto))
+    (λ c. let r = c.before.before in let h = headed-of r in let q = pathed-of h in omega (arith, r.«records».auto, h.tables.kept, q.paths-texts.kept, (listed q).lists.kept, (cleared (listed q)).clear.auto))
     returns)

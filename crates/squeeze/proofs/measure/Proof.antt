@@ -17,35 +17,35 @@ use Rattle.squeeze_records.specs.Laws.Sizes.{all-strings}
 use Rattle.squeeze.proofs.measure.Statement.{statement}
 use Rattle.squeeze.proofs.measure.Tie as tie
 
-abbrev start : tie.After-paths → tie.Start
+abbrev start : tie.After-paths-texts → tie.Start
 start c = c.before.before.before.before.before.before.before.before
 
-few : (c : tie.After-paths) → (c.paths.result.entries ≤ 65535) × (c.paths.result.end ≤ 2 ^ 28)
+few : (c : tie.After-paths-texts) → (c.paths-texts.result.entries ≤ 65535) × (c.paths-texts.result.end ≤ 2 ^ 28)
 few c =
-    let p = c.paths.ensures in
+    let p = c.paths-texts.ensures in
     let v = valid-header (start c).requires.0.tables in
     (omega (arith, p.most, v), omega (arith, p.few, v))
 
-abbrev pathed : tie.After-measure → tie.After-paths
+abbrev pathed : tie.After-measure-named → tie.After-paths-texts
 pathed c = c.before.before.before.before.before.before.before.before
 
-measure-requires : tie.Need-measure-requires
+measure-requires : tie.Need-measure-named-requires
 measure-requires c κs =
     let p = c.before.before.before.before.before.before.before in
     let s = start p in (
       (s.pre.0, s.pre.1.marked),
-      (omega (arith, (few p).0, s.pre.1.index-wide, p.paths.auto), omega (arith, (few p).0, s.pre.1.places-wide, p.paths.auto), omega (arith, (few p).1)),
+      (omega (arith, (few p).0, s.pre.1.index-wide, p.paths-texts.auto), omega (arith, (few p).0, s.pre.1.places-wide, p.paths-texts.auto), omega (arith, (few p).1)),
     )
 
-measure-requires-2 : tie.Need-measure-requires-2
+measure-requires-2 : tie.Need-measure-requires
 measure-requires-2 c κs =
     let m = c.before.before in
     let p = pathed m in
     let s = start p in
-    let k = p.paths.kept in
+    let k = p.paths-texts.kept in
     let w = s.pre.1 in (
       (s.pre.0, omega (arith, w.index-wide, k), omega (arith, w.index-wide, w.places-wide, k), omega (arith, w.places-wide, k), w.marked),
-      m.measure.ensures.icons,
+      m.measure-named.ensures.icons,
     )
 
 returns : tie.Need-returns
@@ -55,26 +55,26 @@ returns c =
     let p = pathed m in
     let s = start p in
     let t = s.args.cache.now in
-    let e = m.measure.ensures in
+    let e = m.measure-named.ensures in
     let acc = s.pre.0.accepted in
     let v = valid-header s.pre.0.tables in
     let icons : length (contents t).icons ≤ 2 ^ 24 = omega (arith, icons-few acc, v) in
     let short : length t ≤ 2 ^ 24 = omega (arith, v) in
     record {
       icons = e.icons;
-      lists = l.measure2.ensures;
+      lists = l.measure.ensures;
       strings =
-          e.ends 0 p.paths.ensures.known p.paths.ensures.ends ∙ zero-add _
+          e.ends 0 p.paths-texts.ensures.known p.paths-texts.ensures.ends ∙ zero-add _
           ∙ ap (λ n. length (strings_up_to t (string_of t n))) e.icons ∙ ap length (sym (all-strings t));
       few = (
         omega (arith, e.icons, icons),
-        omega (arith, l.measure2.ensures, lists-few acc short icons, distinct-all (nth_list (contents t)) (length (contents t).icons)),
+        omega (arith, l.measure.ensures, lists-few acc short icons, distinct-all (nth_list (contents t)) (length (contents t).icons)),
         omega (arith, e.few, (few p).1, e.icons, icons),
       );
     }
 
-pub measure-spec : {M : Type 1} → statement M
-measure-spec =
+pub measure_spec : {M : Type 1} → statement M
+measure_spec =
     tie.close
     (tie.spec
     (λ c. search rules)

@@ -15,39 +15,39 @@ use Rattle.squeeze.specs.Laws.Answer.{sound-checked, check-refuses, buckets-refu
 use Rattle.squeeze.proofs.squeeze.Statement.{statement}
 use Rattle.squeeze.proofs.squeeze.Tie as tie
 
-returns : tie.Need-returns
+returns : tie.Need-returns-then-check-ne0
 returns c =
     let checked = c.before.before.before in
-    let told = check-refuses _ _ checked.check-short.ensures.0 c.before.if1.true in
+    let told = check-refuses _ _ checked.check_short-check.ensures.0 c.before.if-check-ne0.true in
     (c.refusal.ensures ∙ told.0, told.1)
 
-abbrev start : tie.Else1 → tie.Start
+abbrev start : tie.Else-check-ne0 → tie.Start
 start c = c.before.before.before.before.before
 
-accepted : (c : tie.Else1) → Accepted Short (start c).args.cache.now
-accepted c = c.before.before.check-short.ensures.1.0.accepted.0 c.if1.false
+accepted : (c : tie.Else-check-ne0) → Accepted Short (start c).args.cache.now
+accepted c = c.before.before.check_short-check.ensures.1.0.accepted.0 c.if-check-ne0.false
 
 -- the tables of an accepted cache
-sound : (c : tie.After-read) → Sound (start c.before).args.cache.now c.read.result
-sound c = record { tables = c.read.ensures; accepted = accepted c.before }
+sound : (c : tie.After-read-t) → Sound (start c.before).args.cache.now c.read-t.result
+sound c = record { tables = c.read-t.ensures; accepted = accepted c.before }
 
-returns-2 : tie.Need-returns-2
+returns-2 : tie.Need-returns-then-t-gt4096
 returns-2 c =
     let many = c.before in
     let read = many.before.before in
     let s = start read.before in
-    let told = buckets-refused s.args.cache.now s.args.squeezed.now (sound-checked (sound read)) (omega (arith, same-buckets read.read.ensures, many.if2.true)) in
-    (c.refusal2.ensures ∙ told.0, told.1)
+    let told = buckets-refused s.args.cache.now s.args.squeezed.now (sound-checked (sound read)) (omega (arith, same-buckets read.read-t.ensures, many.if-t-gt4096.true)) in
+    (c.refusal-then-t-gt4096.ensures ∙ told.0, told.1)
 
-returns-3 : tie.Need-returns-3
+returns-3 : tie.Need-returns-then-fault-ne0
 returns-3 c =
     let broken = c.before in
     let judged = broken.before.before in
     let few = judged.before in
     let read = few.before.before in
     let s = start read.before in
-    let told = data-refused s.args.cache.now s.args.squeezed.now (sound-checked (sound read)) (omega (arith, same-buckets read.read.ensures, few.if2.false)) judged.image-data.ensures broken.if3.true in
-    (c.refusal3.ensures ∙ told.0, told.1)
+    let told = data-refused s.args.cache.now s.args.squeezed.now (sound-checked (sound read)) (omega (arith, same-buckets read.read-t.ensures, few.if-t-gt4096.false)) judged.image_data-fault.ensures broken.if-fault-ne0.true in
+    (c.refusal-then-fault-ne0.ensures ∙ told.0, told.1)
 
 rewrite-requires : tie.Need-rewrite-requires
 rewrite-requires c κs =
@@ -58,16 +58,16 @@ rewrite-requires c κs =
     let read = few.before.before in (
       sound read,
       record {
-        index-wide = omega (arith, length-replicate {A = ℕ} 65536 0, marked.mark-repeated.auto);
+        index-wide = omega (arith, length-replicate {A = ℕ} 65536 0, marked.mark_repeated.auto);
         places-wide = length-replicate {A = ℕ} 65536 0;
-        marked = marked.mark-repeated.ensures (zeros-unmarked 30720);
+        marked = marked.mark_repeated.ensures (zeros-unmarked 30720);
       },
-      omega (arith, same-buckets read.read.ensures, few.if2.false),
-      sym (same_number judged.image-data.ensures) ∙ plain.if3.false,
+      omega (arith, same-buckets read.read-t.ensures, few.if-t-gt4096.false),
+      sym (same_number judged.image_data-fault.ensures) ∙ plain.if-fault-ne0.false,
     )
 
-pub squeeze-spec : {M : Type 1} → statement M
-squeeze-spec =
+pub squeeze_spec : {M : Type 1} → statement M
+squeeze_spec =
     tie.close
     (tie.spec
     (λ c κs. search rules)

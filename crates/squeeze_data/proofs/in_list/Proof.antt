@@ -10,26 +10,26 @@ use Rattle.squeeze_spec.specs.Call.{plain_fault, images_data_fault}
 use Rattle.squeeze_data.proofs.in_list.Statement.{statement}
 use Rattle.squeeze_data.proofs.in_list.Tie as tie
 
-abbrev invariant-loop : tie.invariant-loop
+abbrev invariant-loop : tie.invariant-loop-left
 invariant-loop cache m at left₀ here₀ left here = (here + 8 * left ≤ length cache) × (images_data_fault left cache here ≡ images_data_fault m cache at)
 
-abbrev decreases-loop : tie.decreases-loop
+abbrev decreases-loop : tie.decreases-loop-left
 decreases-loop cache m at left₀ here₀ left here = left
 
-returns : tie.Need-returns invariant-loop decreases-loop
+returns : tie.Need-returns-then-u32_at-ne0 invariant-loop decreases-loop
 returns c =
     let l = c.before.before.before in
-    let broken = unless-broken _ 25 l.loop.here (ne_eqb _ _ (λ z. c.if1.true (c.before.u32-at.ensures ∙ z))) in
-    sym (first-stop (plain_fault _) (step_on 8) _ _ (omega arith) (λ z. omega (arith, same_number broken)) ∙ broken) ∙ l.loop.invariant.1
+    let broken = unless-broken _ 25 l.loop-left.here (ne_eqb _ _ (λ z. c.if-u32_at-ne0.true (c.before.u32_at.ensures ∙ z))) in
+    sym (first-stop (plain_fault _) (step_on 8) _ _ (omega arith) (λ z. omega (arith, same_number broken)) ∙ broken) ∙ l.loop-left.invariant.1
 
-loop-again : tie.Need-loop-preserved invariant-loop decreases-loop
+loop-again : tie.Need-loop-left-preserved invariant-loop decreases-loop
 loop-again c =
     let l = c.before.before.before in
-    let none = same_number (unless-kept _ 25 l.loop.here (eq-eqb _ _ (sym c.before.u32-at.ensures ∙ c.if1.false))) in
-    (omega arith, sym (first-go-on (plain_fault _) (step_on 8) _ _ (l.loop.left - 1) (omega arith) none) ∙ l.loop.invariant.1)
+    let none = same_number (unless-kept _ 25 l.loop-left.here (eq-eqb _ _ (sym c.before.u32_at.ensures ∙ c.if-u32_at-ne0.false))) in
+    (omega arith, sym (first-go-on (plain_fault _) (step_on 8) _ _ (l.loop-left.left - 1) (omega arith) none) ∙ l.loop-left.invariant.1)
 
-pub in-list-spec : {M : Type 1} → statement M
-in-list-spec =
+pub in_list_spec : {M : Type 1} → statement M
+in_list_spec =
     tie.close
     (tie.spec
     invariant-loop
@@ -42,4 +42,4 @@ in-list-spec =
     (λ c. omega arith)
     (λ c. omega arith)
     loop-again
-    (λ c. sym (first-end (plain_fault _) (step_on 8) _ _ (omega arith)) ∙ c.before.loop.invariant.1))
+    (λ c. sym (first-end (plain_fault _) (step_on 8) _ _ (omega arith)) ∙ c.before.loop-left.invariant.1))

@@ -8,11 +8,11 @@ use Rattle.squeeze_spec.specs.Call.{images_data_fault}
 use Rattle.squeeze_data.proofs.in_record.Statement.{statement}
 use Rattle.squeeze_data.proofs.in_record.Tie as tie
 
-in-list-requires : tie.Need-in-list-requires
+in-list-requires : tie.Need-in_list-requires
 in-list-requires c κs =
     let list = c.before in
     let s = list.before.before in
-    omega (arith, s.requires.listed, list.u32-at.ensures, c.u32-at2.ensures ∙ ap (be 4 s.args.cache.now) list.u32-at.ensures)
+    omega (arith, s.requires.listed, list.u32_at-list.ensures, c.u32_at-count.ensures ∙ ap (be 4 s.args.cache.now) list.u32_at-list.ensures)
 
 returns : tie.Need-returns
 returns c =
@@ -20,11 +20,11 @@ returns c =
     let list = count.before in
     let s = list.before.before.args.cache.now in
     c.in_List.ensures
-    ∙ ap (λ n. images_data_fault n s (list.u32-at.result + 4)) count.u32-at2.ensures
-    ∙ ap (λ p. images_data_fault (be 4 s p) s (p + 4)) list.u32-at.ensures
+    ∙ ap (λ n. images_data_fault n s (list.u32_at-list.result + 4)) count.u32_at-count.ensures
+    ∙ ap (λ p. images_data_fault (be 4 s p) s (p + 4)) list.u32_at-list.ensures
 
-pub in-record-spec : {M : Type 1} → statement M
-in-record-spec =
+pub in_record_spec : {M : Type 1} → statement M
+in_record_spec =
     tie.close
     (tie.spec
     (λ c. search rules)

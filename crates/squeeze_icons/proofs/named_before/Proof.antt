@@ -22,11 +22,11 @@ use Rattle.squeeze_icons.specs.Laws.Before.{Passing, passing-first, passing-insi
 use Rattle.squeeze_icons.proofs.named_before.Statement.{statement}
 use Rattle.squeeze_icons.proofs.named_before.Tie as tie
 
-abbrev invariant-loop : tie.invariant-loop
+abbrev invariant-loop : tie.invariant-loop-other
 invariant-loop cache at name other₀ passed₀ other passed =
     (here : Here cache at.number at.bucket at.«record») × Passing cache at.number at.bucket here.step other passed
 
-abbrev decreases-loop : tie.decreases-loop
+abbrev decreases-loop : tie.decreases-loop-other
 decreases-loop cache at name other₀ passed₀ other passed = chain_length cache at.bucket - passed
 
 abbrev acc : (s : tie.Start invariant-loop decreases-loop) → Accepted Short s.args.cache.now
@@ -41,70 +41,70 @@ own-inside s = let h = own-here s in omega (arith, h.is, h.stands.keeps.inside)
 few : (s : tie.Start invariant-loop decreases-loop) → chain_length s.args.cache.now s.args.at.bucket ≤ 16777216
 few s = omega (arith, holds-few (chain-lengths (acc s) s.args.at.bucket (own-here s).stands.bucket), valid-header s.requires.0.tables)
 
-field-ends : (c : tie.After-bucket-field invariant-loop decreases-loop) → c.bucket-field.result + 4 ≤ length c.before.before.before.before.args.cache.now
+field-ends : (c : tie.After-bucket_field invariant-loop decreases-loop) → c.bucket_field.result + 4 ≤ length c.before.before.before.before.args.cache.now
 field-ends c =
     let s = c.before.before.before.before in
     let k = s.args.at.bucket in
-    omega (arith, c.bucket-field.ensures, same-field s.requires.0.tables k, field-inside s.requires.0.tables k (own-here s).stands.bucket)
+    omega (arith, c.bucket_field.ensures, same-field s.requires.0.tables k, field-inside s.requires.0.tables k (own-here s).stands.bucket)
 
-loop-holds : tie.Need-loop-init invariant-loop decreases-loop
+loop-holds : tie.Need-loop-other-init invariant-loop decreases-loop
 loop-holds c =
     let field = c.before in
     let s = field.before.before.before.before in
-    let told = field.bucket-field.ensures ∙ same-field s.requires.0.tables s.args.at.bucket in
-    (own-here s, passing-first (acc s) (own-here s) (c.u32-at2.ensures ∙ ap (be 4 s.args.cache.now) told))
+    let told = field.bucket_field.ensures ∙ same-field s.requires.0.tables s.args.at.bucket in
+    (own-here s, passing-first (acc s) (own-here s) (c.u32_at-other.ensures ∙ ap (be 4 s.args.cache.now) told))
 
 -- a record is passed
-module _ (l : tie.At-loop invariant-loop decreases-loop) where
+module _ (l : tie.At-loop-other invariant-loop decreases-loop) where
   abbrev start : tie.Start invariant-loop decreases-loop
   start = l.before.before.before.before.before.before
 
-  inside : l.loop.other + 12 ≤ length start.args.cache.now
-  inside = passing-inside (acc start) l.loop.inv.0 l.loop.inv.1
+  inside : l.loop-other.other + 12 ≤ length start.args.cache.now
+  inside = passing-inside (acc start) l.loop-other.inv.0 l.loop-other.inv.1
 
 -- and its name compared with that of the record at hand
 module _ (c : tie.After-same invariant-loop decreases-loop) where
-  abbrev at : tie.At-loop invariant-loop decreases-loop
+  abbrev at : tie.At-loop-other invariant-loop decreases-loop
   at = c.before.before.before.before
 
   abbrev s : List ℕ
   s = (start at).args.cache.now
 
-  other : at.loop.other ≡ (start at).args.at.«record» → ⊥
-  other = c.before.before.if1.true
+  other : at.loop-other.other ≡ (start at).args.at.«record» → ⊥
+  other = c.before.before.loop-other-test.true
 
-  this : name_of s at.loop.other ≡ key_at Ended s c.before.u32-at3.result
-  this = ap (key_at Ended s) (sym c.before.u32-at3.ensures)
+  this : name_of s at.loop-other.other ≡ key_at Ended s c.before.u32_at.result
+  this = ap (key_at Ended s) (sym c.before.u32_at.ensures)
 
-  that : key_at Ended s at.before.before.before.u32-at.result ≡ nth_name s (start at).args.at.number
-  that = ap (key_at Ended s) at.before.before.before.u32-at.ensures ∙ ap (name_of s) (own-here (start at)).is
+  that : key_at Ended s at.before.before.before.u32_at-name.result ≡ nth_name s (start at).args.at.number
+  that = ap (key_at Ended s) at.before.before.before.u32_at-name.ensures ∙ ap (name_of s) (own-here (start at)).is
 
-  before : at.loop.passed < chain_length s (start at).args.at.bucket
+  before : at.loop-other.passed < chain_length s (start at).args.at.bucket
   before =
-      let (here, passing) = at.loop.inv in
+      let (here, passing) = at.loop-other.inv in
       omega (arith, passing-before (acc (start at)) here passing other, here.stands.step)
 
-returns : tie.Need-returns invariant-loop decreases-loop
+returns : tie.Need-returns-then-same invariant-loop decreases-loop
 returns c =
     let compared = c.before in
-    let (here, passing) = (at compared).loop.invariant in
-    sym (ap not (passing-same (acc (start (at compared))) here passing (other compared) (this compared ∙ compared.same.ensures.0 c.if2.true ∙ that compared)))
+    let (here, passing) = (at compared).loop-other.invariant in
+    sym (ap not (passing-same (acc (start (at compared))) here passing (other compared) (this compared ∙ compared.same.ensures.0 c.if-same.true ∙ that compared)))
 
-loop-again : tie.Need-loop-preserved invariant-loop decreases-loop
+loop-again : tie.Need-loop-other-preserved invariant-loop decreases-loop
 loop-again c =
     let differs = c.before in
     let compared = differs.before in
-    let (here, passing) = (at compared).loop.invariant in
-    let unlike = compared.same.ensures.1 differs.if2.false in
-    (here, passing-next (acc (start (at compared))) here passing (other compared) (λ e. unlike (sym (this compared) ∙ e ∙ sym (that compared))) c.u32-at4.ensures)
+    let (here, passing) = (at compared).loop-other.invariant in
+    let unlike = compared.same.ensures.1 differs.if-same.false in
+    (here, passing-next (acc (start (at compared))) here passing (other compared) (λ e. unlike (sym (this compared) ∙ e ∙ sym (that compared))) c.u32_at-other-in-loop-other.ensures)
 
-returns-2 : tie.Need-returns-2 invariant-loop decreases-loop
+returns-2 : tie.Need-returns invariant-loop decreases-loop
 returns-2 c =
     let l = c.before.before in
-    sym (ap not (passing-all (acc (start l)) l.loop.invariant.0 l.loop.invariant.1 c.if1.false))
+    sym (ap not (passing-all (acc (start l)) l.loop-other.invariant.0 l.loop-other.invariant.1 c.loop-other-test.false))
 
-pub named-before-spec : {M : Type 1} → statement M
-named-before-spec =
+pub named_before_spec : {M : Type 1} → statement M
+named_before_spec =
     tie.close
     (tie.spec
     invariant-loop

@@ -7,27 +7,27 @@ use Rattle.squeeze_icons.specs.Laws.Icon.{all-passed}
 use Rattle.squeeze_icons.proofs.nth.Statement.{statement}
 use Rattle.squeeze_icons.proofs.nth.Tie as tie
 
-abbrev invariant-loop : tie.invariant-loop
+abbrev invariant-loop : tie.invariant-loop-icon
 invariant-loop cache t repeated n icon₀ icon = Staying cache icon × (icon.icon ≤ n)
 
-abbrev decreases-loop : tie.decreases-loop
+abbrev decreases-loop : tie.decreases-loop-icon
 decreases-loop cache t repeated n icon₀ icon = n - icon.icon
 
-next-requires : tie.Need-next-requires invariant-loop decreases-loop
+next-requires : tie.Need-next-icon-requires invariant-loop decreases-loop
 next-requires c κs =
     let l = c.before.before in
     let s = l.before.before.before.before in
-    (s.requires.0, s.requires.1, l.loop.invariant.0, λ e. omega (arith, all-passed s.requires.0.accepted l.loop.invariant.0 e, s.requires.2, c.if1.true))
+    (s.requires.0, s.requires.1, l.loop-icon.invariant.0, λ e. omega (arith, all-passed s.requires.0.accepted l.loop-icon.invariant.0 e, s.requires.2, c.loop-icon-test.true))
 
-pub nth-spec : {M : Type 1} → statement M
-nth-spec =
+pub nth_spec : {M : Type 1} → statement M
+nth_spec =
     tie.close
     (tie.spec
     invariant-loop
     decreases-loop
     (λ c κs. search rules)
-    (λ c. (c.first.ensures.0, omega (arith, c.first.ensures.1)))
+    (λ c. (c.first-icon.ensures.0, omega (arith, c.first-icon.ensures.1)))
     next-requires
-    (λ c. omega (arith, c.next.ensures.1))
-    (λ c. (c.next.ensures.0, omega (arith, c.next.ensures.1)))
-    (λ c. (c.before.before.loop.invariant.0, omega (arith, c.before.before.loop.invariant.1))))
+    (λ c. omega (arith, c.next-icon.ensures.1))
+    (λ c. (c.next-icon.ensures.0, omega (arith, c.next-icon.ensures.1)))
+    (λ c. (c.before.before.loop-icon.invariant.0, omega (arith, c.before.before.loop-icon.invariant.1))))

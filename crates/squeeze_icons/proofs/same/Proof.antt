@@ -6,14 +6,14 @@ use Rattle.keys.specs.Laws.{order-equal, less_other, greater-other}
 use Rattle.squeeze_icons.proofs.same.Statement.{statement}
 use Rattle.squeeze_icons.proofs.same.Tie as tie
 
-returns : tie.Need-returns
-returns c = (λ e. absurd (false≢true e), λ e. less_other _ _ (sym c.before.before.compare.ensures ∙ c.enum_told.given.1))
+returns : tie.Need-returns-in-Less
+returns c = (λ e. absurd (false≢true e), λ e. less_other _ _ (sym c.before.before.compare-order.ensures ∙ c.enum_told-1.given.1))
 
-returns-2 : tie.Need-returns-2
-returns-2 c = (λ e. order-equal _ _ (sym c.before.before.compare.ensures ∙ c.enum-told2.given.1), λ e. absurd (true≢false e))
+returns-2 : tie.Need-returns-in-Equal
+returns-2 c = (λ e. order-equal _ _ (sym c.before.before.compare-order.ensures ∙ c.enum_told-in-Equal-1.given.1), λ e. absurd (true≢false e))
 
-returns-3 : tie.Need-returns-3
-returns-3 c = (λ e. absurd (false≢true e), λ e. greater-other _ _ (sym c.before.before.compare.ensures ∙ c.enum-told3.given.1))
+returns-3 : tie.Need-returns-in-Greater
+returns-3 c = (λ e. absurd (false≢true e), λ e. greater-other _ _ (sym c.before.before.compare-order.ensures ∙ c.enum_told-in-Greater-1.given.1))
 
 pub same_spec : {M : Type 1} → statement M
 same_spec =

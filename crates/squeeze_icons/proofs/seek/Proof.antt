@@ -12,45 +12,45 @@ use Rattle.squeeze_icons.specs.Laws.Seeking.{seeking-gone}
 use Rattle.squeeze_icons.proofs.seek.Statement.{statement}
 use Rattle.squeeze_icons.proofs.seek.Tie as tie
 
-abbrev invariant-loop : tie.invariant-loop
+abbrev invariant-loop : tie.invariant-loop-at
 invariant-loop cache t repeated icon at₀ at = Seeking cache icon at
 
-abbrev decreases-loop : tie.decreases-loop
+abbrev decreases-loop : tie.decreases-loop-at
 decreases-loop cache t repeated icon at₀ at = length (all_records Short cache) - at.number
 
 stays-requires : tie.Need-stays-requires invariant-loop decreases-loop
 stays-requires c κs =
     let l = c.before.before in
     let s = l.before.before.before in
-    (s.requires.0, s.requires.1, l.loop.invariant.at, c.if1.true)
+    (s.requires.0, s.requires.1, l.loop-at.invariant.at, c.loop-at-test.true)
 
-returns : tie.Need-returns invariant-loop decreases-loop
+returns : tie.Need-returns-then-stays invariant-loop decreases-loop
 returns c =
-    let h = c.before.before.before.before.loop.invariant in
-    (record { at = h.at; icons = h.icons; stays = λ real. sym c.before.stays.ensures ∙ c.if2.true }, refl)
+    let h = c.before.before.before.before.loop-at.invariant in
+    (record { at = h.at; icons = h.icons; stays = λ real. sym c.before.stays.ensures ∙ c.if-stays.true }, refl)
 
-next-requires : tie.Need-next-requires invariant-loop decreases-loop
+next-requires : tie.Need-next-at-requires invariant-loop decreases-loop
 next-requires c κs =
     let l = c.before.before.before.before in
-    (l.before.before.before.requires.0, l.loop.invariant.at, c.before.before.if1.true)
+    (l.before.before.before.requires.0, l.loop-at.invariant.at, c.before.before.loop-at-test.true)
 
-loop-less : tie.Need-loop-smaller invariant-loop decreases-loop
+loop-less : tie.Need-loop-at-smaller invariant-loop decreases-loop
 loop-less c =
     let turn = c.before.before.before in
     let l = turn.before.before in
-    omega (arith, here-below l.before.before.before.requires.0.accepted (l.loop.invariant.at.here turn.if1.true), c.next.ensures.1)
+    omega (arith, here-below l.before.before.before.requires.0.accepted (l.loop-at.invariant.at.here turn.loop-at-test.true), c.next-at.ensures.1)
 
-loop-again : tie.Need-loop-preserved invariant-loop decreases-loop
+loop-again : tie.Need-loop-at-preserved invariant-loop decreases-loop
 loop-again c =
     let gone = c.before in
     let l = gone.before.before.before.before in
-    seeking-gone l.loop.at c.next.ensures.0 c.next.ensures.1 l.loop.invariant.icons (sym gone.before.stays.ensures ∙ gone.if2.false)
+    seeking-gone l.loop-at.at c.next-at.ensures.0 c.next-at.ensures.1 l.loop-at.invariant.icons (sym gone.before.stays.ensures ∙ gone.if-stays.false)
 
-returns-2 : tie.Need-returns-2 invariant-loop decreases-loop
-returns-2 c = let h = c.before.before.loop.invariant in (record { at = h.at; icons = h.icons; stays = λ real. absurd (real c.if1.false) }, refl)
+returns-2 : tie.Need-returns invariant-loop decreases-loop
+returns-2 c = let h = c.before.before.loop-at.invariant in (record { at = h.at; icons = h.icons; stays = λ real. absurd (real c.loop-at-test.false) }, refl)
 
-pub seek-spec : {M : Type 1} → statement M
-seek-spec =
+pub seek_spec : {M : Type 1} → statement M
+seek_spec =
     tie.close
     (tie.spec
     invariant-loop

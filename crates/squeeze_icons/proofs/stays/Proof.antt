@@ -7,14 +7,14 @@ use Rattle.in_order.specs.Laws.{here-below}
 use Rattle.squeeze_icons.proofs.stays.Statement.{statement}
 use Rattle.squeeze_icons.proofs.stays.Tie as tie
 
-returns : tie.Need-returns
+returns : tie.Need-returns-then-number-repeated
 returns c =
     let s = c.before.before.before.before in
     let below = here-below s.requires.0.accepted (s.requires.2.here s.requires.3) in
-    ap not (c.is-marked.ensures ∙ s.requires.1 s.args.at.number below (omega arith)) ∙ not-not _
+    ap not (c.is_marked.ensures ∙ s.requires.1 s.args.at.number below (omega arith)) ∙ not-not _
 
-returns-2 : tie.Need-returns-2
-returns-2 c = ap not c.named-before.ensures ∙ not-not _
+returns-2 : tie.Need-returns
+returns-2 c = ap not c.named_before.ensures ∙ not-not _
 
-pub stays-spec : {M : Type 1} → statement M
-stays-spec = tie.close (tie.spec (λ c κs. search rules) returns (λ c κs. search rules) returns-2)
+pub stays_spec : {M : Type 1} → statement M
+stays_spec = tie.close (tie.spec (λ c κs. search rules) returns (λ c κs. search rules) returns-2)

@@ -9,56 +9,56 @@ use Rattle.squeeze_lists.specs.Laws.Shares.{filled_at}
 use Rattle.squeeze_lists.proofs.lists.Statement.{statement}
 use Rattle.squeeze_lists.proofs.lists.Tie as tie
 
-abbrev invariant-loop : tie.invariant-loop
+abbrev invariant-loop : tie.invariant-loop-from
 invariant-loop cache t index₀ places₀ repeated out₀ table at icons from₀ end₀ index places out from end =
     (length index ≡ length index₀) × (length places ≡ length places₀) × (length out ≡ length out₀)
     × ((lent : List ℕ) (place : ℕ) → Filled cache lent out₀ table place 0 at → Filled cache lent out table place from end)
 
-abbrev decreases-loop : tie.decreases-loop
+abbrev decreases-loop : tie.decreases-loop-from
 decreases-loop cache t index₀ places₀ repeated out₀ table at icons from₀ end₀ index places out from end = icons - from
 
-abbrev start : tie.At-loop invariant-loop decreases-loop → tie.Start invariant-loop decreases-loop
+abbrev start : tie.At-loop-from invariant-loop decreases-loop → tie.Start invariant-loop decreases-loop
 start c = c.before.before.before.before.before.before
 
-block-requires : tie.Need-block-requires invariant-loop decreases-loop
+block-requires : tie.Need-block-shared-requires invariant-loop decreases-loop
 block-requires c κs =
     let l = c.before.before.before.before in
     let s = start l in
-    let i = l.loop.invariant in
+    let i = l.loop-from.invariant in
     let g = s.pre.1.1 in (
       (s.pre.0.0, omega (arith, s.pre.0.1, i.0), omega (arith, s.pre.0.2, i.0, i.1), omega (arith, s.pre.0.3, i.1), s.pre.0.4),
       record { lent = g.lent; at = g.at; filled = i.3 g.lent g.at g.filled },
     )
 
-abbrev went : tie.After-slice-known6 invariant-loop decreases-loop → tie.After-block invariant-loop decreases-loop
+abbrev went : tie.After-slice_known-in-loop-from-3-1 invariant-loop decreases-loop → tie.After-block-shared invariant-loop decreases-loop
 went c = c.before.before.before.before.before.before
 
-abbrev turn : tie.After-slice-known6 invariant-loop decreases-loop → tie.In-loop invariant-loop decreases-loop
+abbrev turn : tie.After-slice_known-in-loop-from-3-1 invariant-loop decreases-loop → tie.In-loop-from invariant-loop decreases-loop
 turn c = (went c).before.before.before.before
 
-loop-less : tie.Need-loop-smaller invariant-loop decreases-loop
+loop-less : tie.Need-loop-from-smaller invariant-loop decreases-loop
 loop-less c =
     let s = start (turn c).before in
-    omega (arith, (turn c).loop-test.true, (went c).block.ensures.1 (omega (arith, (turn c).loop-test.true, s.pre.1.0)))
+    omega (arith, (turn c).loop-from-test.true, (went c).block-shared.ensures.1 (omega (arith, (turn c).loop-from-test.true, s.pre.1.0)))
 
-loop-again : tie.Need-loop-preserved invariant-loop decreases-loop
+loop-again : tie.Need-loop-from-preserved invariant-loop decreases-loop
 loop-again c =
     let l = (turn c).before in
-    let kept = (went c).block.auto in (
-      omega (arith, l.loop.inv.0, kept),
-      omega (arith, l.loop.inv.1, kept),
-      omega (arith, l.loop.inv.2, kept),
-      λ lent place h. (went c).block.ensures.0 lent place (l.loop.inv.3 lent place h),
+    let kept = (went c).block-shared.auto in (
+      omega (arith, l.loop-from.inv.0, kept),
+      omega (arith, l.loop-from.inv.1, kept),
+      omega (arith, l.loop-from.inv.2, kept),
+      λ lent place h. (went c).block-shared.ensures.0 lent place (l.loop-from.inv.3 lent place h),
     )
 
 returns : tie.Need-returns invariant-loop decreases-loop
 returns c lent place h =
     let l = c.before in
-    let f = l.loop.invariant.3 lent place h in
-    (_, filled_at (omega (arith, f.within, c.loop-test.false, (start l).requires.1.0)) f)
+    let f = l.loop-from.invariant.3 lent place h in
+    (_, filled_at (omega (arith, f.within, c.loop-from-test.false, (start l).requires.1.0)) f)
 
-pub lists-spec : {M : Type 1} → statement M
-lists-spec =
+pub lists_spec : {M : Type 1} → statement M
+lists_spec =
     tie.close
     (tie.spec
     invariant-loop

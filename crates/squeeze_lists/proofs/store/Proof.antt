@@ -17,10 +17,10 @@ returns c =
     let a = s.args in
     record {
       between = _;
-      list_put = copied.copy.ensures ∙ ap (λ n. put a.out.now a.shared.end (take (4 + 8 * n) (drop a.list a.cache.now))) read.u32-at.ensures;
+      list_put = copied.copy.ensures ∙ ap (λ n. put a.out.now a.shared.end (take (4 + 8 * n) (drop a.list a.cache.now))) read.u32_at.ensures;
       adds = added.add.ensures;
-      cell-put = cell.put-u32.ensures;
-      becomes = ap (λ n. record { until = a.icon + 1; entries = a.shared.entries + 1; end = a.shared.end + (4 + 8 * n) }) read.u32-at.ensures;
+      cell-put = cell.put_u32.ensures;
+      becomes = ap (λ n. record { until = a.icon + 1; entries = a.shared.entries + 1; end = a.shared.end + (4 + 8 * n) }) read.u32_at.ensures;
     }
 
 pub store_spec : {M : Type 1} → statement M

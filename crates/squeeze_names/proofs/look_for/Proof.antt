@@ -19,43 +19,43 @@ use Rattle.squeeze_names.specs.Laws.Adds.{adds_none, adds-noted}
 use Rattle.squeeze_names.proofs.look_for.Statement.{statement}
 use Rattle.squeeze_names.proofs.look_for.Tie as tie
 
-abbrev invariant-loop : tie.invariant-loop
+abbrev invariant-loop : tie.invariant-loop-i
 invariant-loop cache field n number index entries marks₀ at₀ i₀ marks at i =
     (i ≤ n)
     × (length marks ≡ length marks₀)
     × (at ≡ ahead cache field i)
     × ((before : List (List ℕ)) → Represents (key_at Ended cache) index entries before → Adds marks₀ marks number i (λ j. among (name_along cache field j) before))
 
-abbrev decreases-loop : tie.decreases-loop
+abbrev decreases-loop : tie.decreases-loop-i
 decreases-loop cache field n number index entries marks₀ at₀ i₀ marks at i = n - i
 
-loop-holds : tie.Need-loop-init invariant-loop decreases-loop
+loop-holds : tie.Need-loop-i-init invariant-loop decreases-loop
 unfolding ahead
 loop-holds c = (omega arith, refl, refl, λ before known. adds_none _ _ 0 (λ i l. absurd (omega arith)))
 
 -- the record at hand lies inside
-inside : (c : tie.In-loop invariant-loop decreases-loop) → let l = c.before in LeadsInside l.before.before.before.before.args.cache.now l.loop.at
-inside c = let l = c.before in rw l.loop.invariant.2 (l.before.before.before.before.requires.0 l.loop.i c.loop-test.true)
+inside : (c : tie.In-loop-i invariant-loop decreases-loop) → let l = c.before in LeadsInside l.before.before.before.before.args.cache.now l.loop-i.at
+inside c = let l = c.before in rw l.loop-i.invariant.2 (l.before.before.before.before.requires.0 l.loop-i.i c.loop-i-test.true)
 
-name-inside : (c : tie.After-u32-at invariant-loop decreases-loop) → c.u32-at.result + 12 ≤ length c.before.before.before.before.before.before.args.cache.now
-name-inside c = omega (arith, c.u32-at.ensures, (inside c.before).record-ends)
+name-inside : (c : tie.After-u32_at-record invariant-loop decreases-loop) → c.u32_at-record.result + 12 ≤ length c.before.before.before.before.before.before.args.cache.now
+name-inside c = omega (arith, c.u32_at-record.ensures, (inside c.before).record-ends)
 
-loop-again : tie.Need-loop-preserved invariant-loop decreases-loop
+loop-again : tie.Need-loop-i-preserved invariant-loop decreases-loop
 loop-again c =
     let read = c.before.before.before.before in
     let l = read.before.before.before in
-    let next = ahead-next _ _ l.loop.i l.loop.invariant.2 read.before.u32-at.ensures in
-    let named = name-read _ _ l.loop.i next read.u32-at2.ensures in
-    (omega arith, omega arith, next, λ before known. adds-noted (l.loop.invariant.3 before known) (rw (← named) (c.before.before.look.ensures before known)))
+    let next = ahead-next _ _ l.loop-i.i l.loop-i.invariant.2 read.before.u32_at-record.ensures in
+    let named = name-read _ _ l.loop-i.i next read.u32_at-name.ensures in
+    (omega arith, omega arith, next, λ before known. adds-noted (l.loop-i.invariant.3 before known) (rw (← named) (c.before.before.look.ensures before known)))
 
 returns : tie.Need-returns invariant-loop decreases-loop
 returns c before known =
     let l = c.before in
-    let all : l.before.before.before.before.args.n ≡ l.loop.i = omega arith in
-    rw all (l.loop.invariant.3 before known)
+    let all : l.before.before.before.before.args.n ≡ l.loop-i.i = omega arith in
+    rw all (l.loop-i.invariant.3 before known)
 
-pub look-for-spec : {M : Type 1} → statement M
-look-for-spec =
+pub look_for_spec : {M : Type 1} → statement M
+look_for_spec =
     tie.close
     (tie.spec
     invariant-loop

@@ -5,21 +5,21 @@ use Rattle.squeeze_names.specs.Laws.Adds.{noted-is, noted-not}
 use Rattle.squeeze_names.proofs.take.Statement.{statement}
 use Rattle.squeeze_names.proofs.take.Tie as tie
 
-returns : tie.Need-returns
+returns : tie.Need-returns-then-met
 returns c = (
   (omega arith, omega arith),
   λ before known.
       let taken = c.before.before.before.before in
       let asked = taken.before.before.before.met.ensures before known in
-      (noted-is asked.right taken.if1.true c.before.before.mark.ensures, rw taken.if1.true at asked.after),
+      (noted-is asked.right taken.if-met.true c.before.before.mark.ensures, rw taken.if-met.true at asked.after),
 )
 
-returns-2 : tie.Need-returns-2
+returns-2 : tie.Need-returns
 returns-2 c = (
   (omega arith, omega arith),
   λ before known.
       let asked = c.before.before.before.met.ensures before known in
-      (noted-not asked.right c.if1.false, rw c.if1.false at asked.after),
+      (noted-not asked.right c.if-met.false, rw c.if-met.false at asked.after),
 )
 
 pub take_spec : {M : Type 1} → statement M

@@ -12,7 +12,7 @@ use Rattle.squeeze_names.specs.Laws.Blocks.{block_is, taken_none, taken_more}
 use Rattle.squeeze_names.proofs.take_in.Statement.{statement}
 use Rattle.squeeze_names.proofs.take_in.Tie as tie
 
-abbrev invariant-loop : tie.invariant-loop
+abbrev invariant-loop : tie.invariant-loop-i
 invariant-loop cache field n number index₀ room marks₀ at₀ i₀ entries₀ index marks at i entries =
     (i ≤ n)
     × (length index ≡ length index₀)
@@ -20,41 +20,41 @@ invariant-loop cache field n number index₀ room marks₀ at₀ i₀ entries₀
     × (entries ≤ room)
     × TakenIn cache field number index marks₀ marks (block_is i entries at)
 
-abbrev decreases-loop : tie.decreases-loop
+abbrev decreases-loop : tie.decreases-loop-i
 decreases-loop cache field n number index₀ room marks₀ at₀ i₀ entries₀ index marks at i entries = n - i
 
-loop-holds : tie.Need-loop-init invariant-loop decreases-loop
+loop-holds : tie.Need-loop-i-init invariant-loop decreases-loop
 loop-holds c = (omega arith, refl, refl, omega arith, taken_none _ _ _ _ _)
 
-returns : tie.Need-returns invariant-loop decreases-loop
-returns c = let inv = c.before.before.loop.invariant in (inv.4, inv.3, inv.0, λ some. omega (arith, inv.4.few))
+returns : tie.Need-returns-then-entries-room invariant-loop decreases-loop
+returns c = let inv = c.before.before.loop-i.invariant in (inv.4, inv.3, inv.0, λ some. omega (arith, inv.4.few))
 
 -- the record at hand lies inside
-inside : (c : tie.Else1 invariant-loop decreases-loop) →
+inside : (c : tie.Else-entries-room invariant-loop decreases-loop) →
     let l = c.before.before in
-    LeadsInside l.before.before.before.before.args.cache.now l.loop.at
+    LeadsInside l.before.before.before.before.args.cache.now l.loop-i.at
 inside c =
     let l = c.before.before in
-    rw l.loop.invariant.4.behind (l.before.before.before.before.requires.0 l.loop.i c.before.loop-test.true)
+    rw l.loop-i.invariant.4.behind (l.before.before.before.before.requires.0 l.loop-i.i c.before.loop-i-test.true)
 
-name-inside : (c : tie.After-u32-at invariant-loop decreases-loop) → c.u32-at.result + 12 ≤ length c.before.before.before.before.before.before.before.args.cache.now
-name-inside c = omega (arith, c.u32-at.ensures, (inside c.before).record-ends)
+name-inside : (c : tie.After-u32_at-record invariant-loop decreases-loop) → c.u32_at-record.result + 12 ≤ length c.before.before.before.before.before.before.before.args.cache.now
+name-inside c = omega (arith, c.u32_at-record.ensures, (inside c.before).record-ends)
 
-loop-again : tie.Need-loop-preserved invariant-loop decreases-loop
+loop-again : tie.Need-loop-i-preserved invariant-loop decreases-loop
 loop-again c =
     let taken = c.before.before.before.before in
     let read = taken.before.before.before in
     let l = read.before.before.before.before in
-    let inv = l.loop.invariant in
-    let next = ahead-next _ _ l.loop.i inv.4.behind read.before.u32-at.ensures in
-    let (few, known) = taken.take.ensures in
-    (omega arith, omega arith, omega arith, omega (arith, few.1), taken_more inv.4 next read.u32-at2.ensures few.1 (known _ inv.4.known))
+    let inv = l.loop-i.invariant in
+    let next = ahead-next _ _ l.loop-i.i inv.4.behind read.before.u32_at-record.ensures in
+    let (few, known) = taken.take-entries.ensures in
+    (omega arith, omega arith, omega arith, omega (arith, few.1), taken_more inv.4 next read.u32_at-name.ensures few.1 (known _ inv.4.known))
 
-returns-2 : tie.Need-returns-2 invariant-loop decreases-loop
-returns-2 c = let inv = c.before.loop.invariant in (inv.4, inv.3, inv.0, λ some. omega arith)
+returns-2 : tie.Need-returns invariant-loop decreases-loop
+returns-2 c = let inv = c.before.loop-i.invariant in (inv.4, inv.3, inv.0, λ some. omega arith)
 
-pub take-in-spec : {M : Type 1} → statement M
-take-in-spec =
+pub take_in_spec : {M : Type 1} → statement M
+take_in_spec =
     tie.close
     (tie.spec
     invariant-loop

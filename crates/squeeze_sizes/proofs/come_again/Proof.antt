@@ -4,14 +4,14 @@ use borrow.Author.Rules.{rules}
 use Rattle.squeeze_sizes.proofs.come_again.Statement.{statement}
 use Rattle.squeeze_sizes.proofs.come_again.Tie as tie
 
-returns : tie.Need-returns
-returns c = record { first = λ none. absurd (c.if1.true none); later = λ some. (refl, refl) }
+returns : tie.Need-returns-then-again-e-ne0
+returns c = record { first = λ none. absurd (c.if-again-e-ne0.true none); later = λ some. (refl, refl) }
 
-returns-2 : tie.Need-returns-2
-returns-2 c = record { first = λ none. (refl, refl); later = λ some. absurd (some c.before.if1.false) }
+returns-2 : tie.Need-returns
+returns-2 c = record { first = λ none. (refl, refl); later = λ some. absurd (some c.before.if-again-e-ne0.false) }
 
-pub come-again-spec : {M : Type 1} → statement M
-come-again-spec =
+pub come_again_spec : {M : Type 1} → statement M
+come_again_spec =
     tie.close
     (tie.spec
     (λ c. search rules)
@@ -19,6 +19,6 @@ come-again-spec =
     returns
     (λ c. search rules)
     (λ c. search rules)
-    (λ c. c.before.before.before.requires.2 c.before.if1.false)
+    (λ c. c.before.before.before.requires.2 c.before.if-again-e-ne0.false)
     (λ c. search rules)
     returns-2)

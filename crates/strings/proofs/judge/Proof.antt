@@ -1,26 +1,26 @@
 -- `strings::judge` meets its contract: an arm for each clause of the definition.
-use borrow.Author.Rules.{rules}
+use Rattle.std.proofs.Common.{rules}
 use Rattle.format.specs.String.{string_fault}
 use Rattle.strings.proofs.judge.Statement.{statement}
 use Rattle.strings.proofs.judge.Tie as tie
 
-returns : tie.Need-returns
+returns : tie.Need-returns-in-Whole
 unfolding string_fault
-returns c = rw c.enum_told.given.1
+returns c = rw c.enum_told-1.given.1
 
-returns-2 : tie.Need-returns-2
+returns-2 : tie.Need-returns-in-Empty
 unfolding string_fault
-returns-2 c = rw c.enum-told2.given.1
+returns-2 c = rw c.enum_told-in-Empty-1.given.1
 
-returns-3 : tie.Need-returns-3
+returns-3 : tie.Need-returns-in-Long
 unfolding string_fault
-returns-3 c = rw c.enum-told3.given.1
+returns-3 c = rw c.enum_told-in-Long-1.given.1
 
-returns-4 : tie.Need-returns-4
+returns-4 : tie.Need-returns-in-Cut
 unfolding string_fault
-returns-4 c = rw c.enum-told4.given.1
+returns-4 c = rw c.enum_told-in-Cut-1.given.1
 
-pub judge-spec : {M : Type 1} → statement M
-judge-spec =
+pub judge_spec : {M : Type 1} → statement M
+judge_spec =
     tie.close
     (tie.spec (λ c. search rules) (λ c. search rules) (λ c. search rules) (λ c. search rules) returns returns-2 returns-3 returns-4)

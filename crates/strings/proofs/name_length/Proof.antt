@@ -1,25 +1,23 @@
 -- `strings::name_length` meets its contract: the string is whole, so it is found so.
-use mathlib.Core.Path.{◌≡◌, sym, ap, ◌∙◌}
+use Rattle.std.proofs.Common.{◌≡◌, drop, sym, ap, ◌∙◌, rules}
 use mathlib.Core.Bool.{false≢true}
-use borrow.Author.Rules.{rules}
-use lib.ListN.{drop}
 use Rattle.format.specs.String.{extent, is_whole}
 use Rattle.format.specs.Laws.Strings.{whole_length}
 use Rattle.strings.proofs.Tags.{tag-not-whole}
 use Rattle.strings.proofs.name_length.Statement.{statement}
 use Rattle.strings.proofs.name_length.Tie as tie
 
-extent-is : (c : tie.After-read-name) → let a = c.before.before.before.args in c.read_name.result.extent ≡ extent 255 (drop a.at a.cache.now)
-extent-is c = c.read_name.ensures.0 ∙ ap (extent 255) c.before.from.ensures
+extent-is : (c : tie.After-read_name-read) → let a = c.before.before.before.args in c.read_name-read.result.extent ≡ extent 255 (drop a.at a.cache.now)
+extent-is c = c.read_name-read.ensures.0 ∙ ap (extent 255) c.before.from-part.ensures
 
-returns : tie.Need-returns
-returns c = whole_length 255 _ _ (sym (extent-is c.before.before.before) ∙ c.before.extent.given.1)
+returns : tie.Need-returns-in-Whole
+returns c = whole_length 255 _ _ (sym (extent-is c.before.before.before) ∙ c.before.extent-1.given.1)
 
-returns-2 : tie.Need-returns-2
+returns-2 : tie.Need-returns-in_default
 returns-2 c =
     let read = c.before in
-    absurd (false≢true (sym (tag-not-whole _ c.match.keys2) ∙ ap is_whole (extent-is read) ∙ read.before.before.before.requires))
+    absurd (false≢true (sym (tag-not-whole _ c.in-Whole.keys2) ∙ ap is_whole (extent-is read) ∙ read.before.before.before.requires))
 
-pub name-length-spec : {M : Type 1} → statement M
-name-length-spec =
+pub name_length_spec : {M : Type 1} → statement M
+name_length_spec =
     tie.close (tie.spec (λ c κs. search rules) (λ c κs. search rules) (λ c. search rules) returns returns-2)

@@ -1,14 +1,11 @@
 -- `strings::spells` meets its contract: the part spells the name exactly if it begins with it and a
--- zero byte (`Begins`).
-use Prim.Native.Nat.{ℕ, ◌<◌}
-use mathlib.Core.Path.{◌≡◌, sym, ◌∙◌}
-use mathlib.Core.List.{List}
-use mathlib.Core.Bool.{true, false, not-eq-not}
-use native.Mathlib.Omega.{arith}
-use borrow.Author.Rules.{rules}
-use lib.ListN.{length, take, get_or}
-use Rattle.format.specs.String.{same_bytes, spells_name, allowed}
-use Rattle.format.specs.Laws.Names.{equal-same, unequal-other, equal_or_not, Begins, spells-begins, begins-spells}
+-- zero byte (`Begins`). The loop's invariant: the bytes passed are the same in both.
+use Rattle.std.proofs.Common.{◌≡◌, ℕ, ◌+◌, ◌-◌, ◌<◌, ◌≤◌, true, false, eqb, List, length, get_or, take, sym, refl, ap, ◌∙◌, add-one, arith, get_or-take, take-suc, eq-eqb, ne_eqb}
+use mathlib.Core.Bool.{not-eq-not}
+use native.Mathlib.Decide.{ℕ_discrete}
+use lib.Seq.{take-length}
+use Rattle.format.specs.String.{spells_name, allowed}
+use Rattle.format.specs.Laws.Names.{Begins, spells-begins, begins-spells}
 use Rattle.strings.proofs.spells.Statement.{statement}
 use Rattle.strings.proofs.spells.Tie as tie
 
@@ -17,31 +14,54 @@ module _ (part name : List ℕ) where
   otherwise : (Begins part name → ⊥) → false ≡ spells_name part name
   otherwise h = sym ((not-eq-not {b = false}).0 (λ e. h (spells-begins part name e)))
 
-  -- the bytes before the zero byte decide
-  decided : allowed name ≡ true → length name < length part → get_or part (length name) 0 ≡ 0 → same_bytes (take (length name) part) name ≡ spells_name part name
-  decided may room ended = elim (equal_or_not (take (length name) part) name) [
-    | yes e ↦ rw e (equal-same name ∙ sym (begins-spells part name may (record { bytes = e; room = room; ended = ended })))
-    | no d ↦ unequal-other _ _ d ∙ otherwise (λ b. d b.bytes)
+  bytes-differ : {i : ℕ} → i < length name → (get_or part i 0 ≡ get_or name i 0 → ⊥) → Begins part name → ⊥
+  bytes-differ {i} l d b = d (sym (get_or-take (length name) part i 0 l) ∙ ap (λ t. get_or t i 0) b.bytes)
+
+  -- the byte after the name decides
+  decided : allowed name ≡ true → length name < length part → take (length name) part ≡ name → eqb (get_or part (length name) 0) 0 ≡ spells_name part name
+  decided may room same = elim (ℕ_discrete (get_or part (length name) 0) 0) [
+    | yes e ↦ rw (eq-eqb _ _ e) (sym (begins-spells part name may (record { bytes = same; room = room; ended = e })))
+    | no d ↦ rw (ne_eqb _ _ d) (otherwise (λ b. d b.ended))
   ]
 
-returns : tie.Need-returns
-returns c = otherwise _ _ (λ b. omega (arith, b.room, c.if1.true))
+abbrev invariant-loop : tie.invariant-loop-i
+invariant-loop part name end i₀ i = (i ≤ end) × (take i part ≡ take i name)
 
-returns-2 : tie.Need-returns-2
-returns-2 c = otherwise _ _ (λ b. c.if2.true b.ended)
+abbrev decreases-loop : tie.decreases-loop-i
+decreases-loop part name end i₀ i = end - i
 
-returns-3 : tie.Need-returns-3
+one_more : (s t : List ℕ) (i : ℕ) → i < length s → i < length t → take i s ≡ take i t → get_or s i 0 ≡ get_or t i 0 → take (i + 1) s ≡ take (i + 1) t
+one_more s t i l g e q = rw (add-one, take-suc s i 0 l, take-suc t i 0 g, e, q)
+
+returns-2 : tie.Need-returns-then-part-i invariant-loop decreases-loop
+returns-2 c = otherwise _ _ (bytes-differ _ _ c.before.before.before.loop-i-test.true c.if-part-i.true)
+
+loop-again : tie.Need-loop-i-preserved invariant-loop decreases-loop
+loop-again c =
+    let l = c.before.before.before.before in
+    let a = l.before.before.args in
+    (omega arith, one_more a.part.now a.name.now l.loop-i.i (omega arith) (omega arith) l.loop-i.invariant.1 c.if-part-i.false)
+
+returns-3 : tie.Need-returns invariant-loop decreases-loop
 returns-3 c =
-    let kept = c.before.before in
-    let room = kept.before.before in
-    c.begins.ensures ∙ decided _ _ room.before.before.before.requires room.if1.false kept.if2.false
+    let l = c.before.before in
+    let start = l.before.before in
+    let all : l.loop-i.i ≡ length start.args.name.now = omega arith in
+    decided _ _ start.requires l.before.if-part-end.false (rw all at l.loop-i.invariant.1 ∙ take-length _)
 
-returns-4 : tie.Need-returns-4
-returns-4 c =
-    let kept = c.before.before in
-    let room = kept.before.before in
-    c.begins-by-eights.ensures ∙ decided _ _ room.before.before.before.requires room.if1.false kept.if2.false
-
-pub spells-spec : {M : Type 1} → statement M
-spells-spec =
-    tie.close (tie.spec returns (λ c. search rules) returns-2 (λ c κs. search rules) (λ c κs. search rules) returns-3 returns-4)
+pub spells_spec : {M : Type 1} → statement M
+spells_spec =
+    tie.close
+    (tie.spec
+    invariant-loop
+    decreases-loop
+    (λ c. otherwise _ _ (λ b. omega (arith, b.room, c.if-part-end.true)))
+    (λ c. (omega arith, refl))
+    (λ c. omega arith)
+    (λ c. omega arith)
+    returns-2
+    (λ c. omega arith)
+    (λ c. omega arith)
+    loop-again
+    (λ c. omega arith)
+    returns-3)

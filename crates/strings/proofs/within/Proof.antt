@@ -1,16 +1,9 @@
 -- `strings::within` meets its contract. A text that has bytes is within the limit just where it is
 -- found cut off: no zero byte came, and no more bytes are there. Rests on `judged` and
 -- `string-fits`.
-use Prim.Native.Nat.{ℕ, ◌<◌, ◌≤◌}
-use mathlib.Core.Path.{◌≡◌, sym, ◌∙◌}
-use mathlib.Core.Logic.{⊎_elim}
-use mathlib.Core.List.{List}
+use Rattle.std.proofs.Common.{◌≡◌, ℕ, ◌<◌, ◌≤◌, eqb, List, length, sym, ◌∙◌, ⊎_elim, arith, rules, lt-ltb, eq-eqb, ne_eqb, le-leb}
 use mathlib.Core.Bool.{and-false}
-use native.Mathlib.Omega.{arith}
-use borrow.Author.Rules.{rules}
-use borrow.Author.Tests.{lt-ltb, le-leb, lt-leb, eq-eqb, ne_eqb}
-use lib.Dec.{eqb}
-use lib.ListN.{length}
+use borrow.Author.Tests.{lt-leb}
 use denote.Enum.Declared.{tag_of}
 use Rattle.format.specs.contracts.Extent.{the_type}
 use Rattle.format.specs.declared.Extent.{Extent}
@@ -32,16 +25,16 @@ within-where-cut limit t some a = rw a (sym (go (judged limit t)))
     go (empty h e) = let d : length (string t) ≡ length t → ⊥ = λ q. omega arith in rw (ne_eqb _ _ d, and-false)
     go (whole e h) = let d : length (string t) ≡ length t → ⊥ = λ q. omega arith in rw (ne_eqb _ _ d, and-false)
 
-returns : tie.Need-returns
-returns c limit t size told = let none : length t ≡ 0 = omega (arith, c.if1.true) in simp none
+returns : tie.Need-returns-then-size-eq0
+returns c limit t size told = let none : length t ≡ 0 = omega (arith, c.if-size-eq0.true) in simp none
 
-returns-2 : tie.Need-returns-2
-returns-2 c limit t size told = sym (eq-eqb _ _ c.before.match.keys1) ∙ within-where-cut limit t (omega arith) told
+returns-2 : tie.Need-returns-in-Cut
+returns-2 c limit t size told = sym (eq-eqb _ _ c.before.in-Cut.keys1) ∙ within-where-cut limit t (omega arith) told
 
-returns-3 : tie.Need-returns-3
+returns-3 : tie.Need-returns-in_default
 returns-3 c limit t size told =
-    let other : tag_of the_type c.before.before.args.extent ≡ 3 → ⊥ = λ e. ⊎_elim (λ k. omega arith) (⊎_elim (λ k. omega arith) (λ k. omega arith)) c.match.keys2 in
+    let other : tag_of the_type c.before.before.args.extent ≡ 3 → ⊥ = λ e. ⊎_elim (λ k. omega arith) (⊎_elim (λ k. omega arith) (λ k. omega arith)) c.in-Cut.keys2 in
     sym (ne_eqb _ _ other) ∙ within-where-cut limit t (omega arith) told
 
-pub within-spec : {M : Type 1} → statement M
-within-spec = tie.close (tie.spec returns (λ c. search rules) returns-2 returns-3)
+pub within_spec : {M : Type 1} → statement M
+within_spec = tie.close (tie.spec returns (λ c. search rules) returns-2 returns-3)

@@ -12,45 +12,45 @@ use Rattle.tables.specs.declared.JudgedPath.{JudgedPath}
 use Rattle.tables.proofs.paths.Statement.{statement}
 use Rattle.tables.proofs.paths.Tie as tie
 
-abbrev invariant-loop : tie.invariant-loop
+abbrev invariant-loop : tie.invariant-loop-i
 invariant-loop cache t n i₀ i = (i ≤ directories cache) × (paths_fault (directories cache - i) cache i ≡ paths_fault (directories cache) cache 0)
 
-abbrev decreases-loop : tie.decreases-loop
+abbrev decreases-loop : tie.decreases-loop-i
 decreases-loop cache t n i₀ i = n - i
 
-loop-holds : tie.Need-loop-init invariant-loop decreases-loop
+loop-holds : tie.Need-loop-i-init invariant-loop decreases-loop
 loop-holds c = (search rules, rw sub-zero)
 
-path-requires : tie.Need-path-requires invariant-loop decreases-loop
+path-requires : tie.Need-path-judged-requires invariant-loop decreases-loop
 path-requires c κs = (c.before.before.before.requires, omega (arith, same-directories c.before.before.before.requires))
 
 -- the fault that a turn judges is that of the definition
-fault-is : (c : tie.After-path invariant-loop decreases-loop)
-    → let l = c.before.before in c.path.result.fault ≡ path_fault l.before.before.args.cache.now l.loop.i
-fault-is c = ap (λ (p : JudgedPath). p.fault) c.path.ensures
+fault-is : (c : tie.After-path-judged invariant-loop decreases-loop)
+    → let l = c.before.before in c.path-judged.result.fault ≡ path_fault l.before.before.args.cache.now l.loop-i.i
+fault-is c = ap (λ (p : JudgedPath). p.fault-1) c.path-judged.ensures
 
-returns : tie.Need-returns invariant-loop decreases-loop
+returns : tie.Need-returns-then-fault-ne0 invariant-loop decreases-loop
 returns c =
     let path = c.before.before.before in
     let loop = path.before.before in
     let judged = fault-is path in
     judged
-    ∙ sym (first-stop _ _ _ _ (omega (arith, same-directories loop.before.before.requires, path.before.loop-test)) (rw judged at c.if1.true))
-    ∙ loop.loop.invariant.1
+    ∙ sym (first-stop _ _ _ _ (omega (arith, same-directories loop.before.before.requires, path.before.loop-i-test)) (rw judged at c.if-fault-ne0.true))
+    ∙ loop.loop-i.invariant.1
 
-loop-again : tie.Need-loop-preserved invariant-loop decreases-loop
+loop-again : tie.Need-loop-i-preserved invariant-loop decreases-loop
 loop-again c =
     let path = c.before.before.before in
     let loop = path.before.before in
     let count = same-directories loop.before.before.requires in
-    let kept = rw (fault-is path) at c.if1.false in
-    (omega (arith, path.before.loop-test), sym (first-go-on _ _ _ _ _ (omega (arith, path.before.loop-test)) kept) ∙ loop.loop.invariant.1)
+    let kept = rw (fault-is path) at c.if-fault-ne0.false in
+    (omega (arith, path.before.loop-i-test), sym (first-go-on _ _ _ _ _ (omega (arith, path.before.loop-i-test)) kept) ∙ loop.loop-i.invariant.1)
 
-returns-2 : tie.Need-returns-2 invariant-loop decreases-loop
-returns-2 c = sym (first-end _ _ _ _ (omega (arith, same-directories c.before.before.before.requires))) ∙ c.before.loop.invariant.1
+returns-2 : tie.Need-returns invariant-loop decreases-loop
+returns-2 c = sym (first-end _ _ _ _ (omega (arith, same-directories c.before.before.before.requires))) ∙ c.before.loop-i.invariant.1
 
-pub paths-spec : {M : Type 1} → statement M
-paths-spec =
+pub paths_spec : {M : Type 1} → statement M
+paths_spec =
     tie.close
     (tie.spec
     invariant-loop

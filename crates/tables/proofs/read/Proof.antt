@@ -21,5 +21,5 @@ read_spec =
     (λ c κs. omega (arith, valid c.before.before.before.before))
     (λ c. let start = c.before.before.before.before.before in record {
       header = start.requires;
-      tables = let two = c.before.before in simp (← two.before.u32-at.ensures, ← two.u32-at2.ensures, ← c.before.u32-at3.ensures, ← c.u32-at4.ensures);
+      tables = let two = c.before.before in simp (← two.before.u32_at-buckets_at.ensures, ← two.u32_at-buckets.ensures, ← c.before.u32_at-directories_at.ensures, ← c.u32_at-directories.ensures);
     }))

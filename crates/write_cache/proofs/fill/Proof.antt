@@ -11,7 +11,7 @@ use Rattle.write_cache.specs.Laws.Filled.{ready, filled}
 use Rattle.write_cache.proofs.fill.Statement.{statement}
 use Rattle.write_cache.proofs.fill.Tie as tie
 
-abbrev start : tie.After-arrange → tie.Start
+abbrev start : tie.After-arrange-begins → tie.Start
 start c = c.before.before.before
 
 -- where each part ends: all lie inside
@@ -25,18 +25,18 @@ record Ends (lists-size paths-size names-size size : ℕ) (lists directories pat
   pub fits : size ≤ room
   pub short : size ≤ 16777216
 
-ends : (c : tie.After-arrange) →
+ends : (c : tie.After-arrange-begins) →
     let a = (start c).args in
     let d = catalogue_in a.catalogue.now in
     let p = a.parts in
-    let at = c.arrange.result in
+    let at = c.arrange-begins.result in
     Ends (length (lists_up_to d p.icons)) (length (paths_up_to d p.paths)) (length (names_up_to d p.icons)) (written_size d a.buckets) at.lists at.directories at.paths at.names
     a.buckets p.paths (length a.out.now)
 ends c =
     let s = start c in
     let a = s.args in
     let d = catalogue_in a.catalogue.now in
-    let e = c.arrange.ensures in
+    let e = c.arrange-begins.ensures in
     let n = icons-are s.pre.0 in
     let m = paths-are s.pre.0 in
     let l = ap (λ n. length (lists_up_to d n)) n in
@@ -58,7 +58,7 @@ returns c =
     let tables = c.before.before.before.before.before.before.before.before.before.before.before.before.before.before.before.before.before.before.before.before.before.before in
     let arranged = tables.before.before in
     let s = start arranged in
-    filled s.pre.1 arranged.arrange.ensures (icons-are s.pre.0) (paths-are s.pre.0)
+    filled s.pre.1 arranged.arrange-begins.ensures (icons-are s.pre.0) (paths-are s.pre.0)
     tables.tables.ensures c.before.before.before.before.before.before.before.before.before.before.before.before.before.before.before.before.before.before.«records».ensures c.before.before.before.before.before.before.before.before.before.before.before.before.before.before.lists.ensures c.before.before.before.before.before.before.before.before.before.before.directories.ensures c.before.before.before.before.before.before.paths.ensures c.before.before.names.ensures
 
 pub fill_spec : {M : Type 1} → statement M
@@ -70,22 +70,22 @@ fill_spec =
     (λ c κs.
     let arranged = c.before.before.before.before.before in
     let s = start arranged in
-    ((s.args.parts.paths, s.pre.0), ready s.pre.1 arranged.arrange.ensures c.before.before.before.tables.ensures (omega arith)))
+    ((s.args.parts.paths, s.pre.0), ready s.pre.1 arranged.arrange-begins.ensures c.before.before.before.tables.ensures (omega arith)))
     (λ c κs. let arranged = c.before.before.before.before.before.before.before.before.before in let s = start arranged in let e = ends arranged in ((s.args.parts.paths, s.pre.0), omega arith))
     (λ c κs.
     let arranged = c.before.before.before.before.before.before.before.before.before.before.before.before.before in
     let s = start arranged in
     let e = ends arranged in
-    ((s.args.parts.icons, s.args.parts.first_icon, s.pre.0), (omega (arith, c.before.before.out3.given, c.before.before.before.before.before.before.out2.given, c.before.before.before.before.before.before.before.before.before.before.out.given), omega arith)))
+    ((s.args.parts.icons, s.args.parts.first_icon, s.pre.0), (omega (arith, c.before.before.out-3-1.given, c.before.before.before.before.before.before.out-2-1.given, c.before.before.before.before.before.before.before.before.before.before.out-1.given), omega arith)))
     (λ c κs.
     let arranged = c.before.before.before.before.before.before.before.before.before.before.before.before.before.before.before.before.before in
     let s = start arranged in
     let e = ends arranged in
-    ((s.args.parts.icons, s.args.parts.first_icon, s.pre.0), omega (arith, c.before.before.out4.given, c.before.before.before.before.before.before.out3.given, c.before.before.before.before.before.before.before.before.before.before.out2.given, c.before.before.before.before.before.before.before.before.before.before.before.before.before.before.out.given)))
+    ((s.args.parts.icons, s.args.parts.first_icon, s.pre.0), omega (arith, c.before.before.out-4-1.given, c.before.before.before.before.before.before.out-3-1.given, c.before.before.before.before.before.before.before.before.before.before.out-2-1.given, c.before.before.before.before.before.before.before.before.before.before.before.before.before.before.out-1.given)))
     (λ c κs.
     let arranged = c.before.before.before.before.before.before.before.before.before.before.before.before.before.before.before.before.before.before.before.before.before in
     let s = start arranged in
     let e = ends arranged in
-    ((s.args.parts.paths, s.pre.0), omega (arith, c.before.before.out5.given, c.before.before.before.before.before.before.out4.given, c.before.before.before.before.before.before.before.before.before.before.out3.given, c.before.before.before.before.before.before.before.before.before.before.before.before.before.before.out2.given, c.before.before.before.before.before.before.before.before.before.before.before.before.before.before.before.before.before.before.out.given)))
+    ((s.args.parts.paths, s.pre.0), omega (arith, c.before.before.out-5-1.given, c.before.before.before.before.before.before.out-4-1.given, c.before.before.before.before.before.before.before.before.before.before.out-3-1.given, c.before.before.before.before.before.before.before.before.before.before.before.before.before.before.out-2-1.given, c.before.before.before.before.before.before.before.before.before.before.before.before.before.before.before.before.before.before.out-1.given)))
     (λ c. search rules)
     returns)

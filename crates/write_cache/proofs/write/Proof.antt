@@ -17,73 +17,73 @@ use Rattle.write_cache.specs.Laws.Answer.{parts-judged, buckets-allowed, buckets
 use Rattle.write_cache.proofs.write.Statement.{statement}
 use Rattle.write_cache.proofs.write.Tie as tie
 
-abbrev start : tie.After-judge → tie.Start
+abbrev start : tie.After-judge-parts → tie.Start
 start c = c.before.before.before
 
 -- the catalogue is refused
-returns : tie.Need-returns
+returns : tie.Need-returns-then-fault-ne0
 returns c =
     let judge = c.before.before.before.before in
     let a = (start judge).args in
-    let own = judge.judge.ensures.fault in
-    let broken : (catalogue_fault a.catalogue.now).number ≡ 0 → ⊥ = λ z. c.before.if1.true (same_number own ∙ z) in
+    let own = judge.judge-parts.ensures.fault in
+    let broken : (catalogue_fault a.catalogue.now).number ≡ 0 → ⊥ = λ z. c.before.if-fault-ne0.true (same_number own ∙ z) in
     let e = catalogue-refused a.catalogue.now a.buckets a.cache.now broken in
     (write-refused a.catalogue.now a.buckets a.cache.now e broken (c.refusal.ensures ∙ ap (λ (v : Fault). write_is v.number v.place 0) own), leaves_all a.catalogue.now a.buckets a.cache.now e broken)
 
 -- it is good
-module _ (c : tie.Else1) where
-  abbrev judged : tie.After-judge
+module _ (c : tie.Else-fault-ne0) where
+  abbrev judged : tie.After-judge-parts
   judged = c.before.before.before
 
   good : (catalogue_fault (start judged).args.catalogue.now).number ≡ 0
-  good = sym (same_number judged.judge.ensures.fault) ∙ c.if1.false
+  good = sym (same_number judged.judge-parts.ensures.fault) ∙ c.if-fault-ne0.false
 
-  by_parts : let p = judged.judge.result in Judged (start judged).args.catalogue.now p.paths p.icons p.first_icon
+  by_parts : let p = judged.judge-parts.result in Judged (start judged).args.catalogue.now p.paths p.icons p.first_icon
   by_parts =
       let s = (start judged).args.catalogue.now in
-      let bytes : AreBytes s = λ i. omega (arith, judged.before.before.shared-slice-known.given i) in
-      parts-judged bytes judged.judge.ensures c.if1.false
+      let bytes : AreBytes s = λ i. omega (arith, judged.before.before.shared_slice_known-1.given i) in
+      parts-judged bytes judged.judge-parts.ensures c.if-fault-ne0.false
 
-returns-2 : tie.Need-returns-2
+returns-2 : tie.Need-returns-then-buckets-eq0
 returns-2 c =
     let e1 = c.before.before in
     let a = (start (judged e1)).args in
-    let wrong = buckets-wrong (⊎_elim (λ then. inl then.taken) (λ else. inr (ltb-true _ _ else.1.taken)) c.before.if2.branch) in
+    let wrong = buckets-wrong (⊎_elim (λ then. inl then.taken) (λ else. inr (ltb-true _ _ else.1.taken)) c.before.if-buckets-eq0.branch) in
     let e = buckets-refused a.catalogue.now a.buckets a.cache.now (good e1) wrong in
-    (write-refused a.catalogue.now a.buckets a.cache.now e (λ z. omega arith) c.refusal2.ensures, leaves_all a.catalogue.now a.buckets a.cache.now e (λ z. omega arith))
+    (write-refused a.catalogue.now a.buckets a.cache.now e (λ z. omega arith) c.refusal-then-buckets-eq0.ensures, leaves_all a.catalogue.now a.buckets a.cache.now e (λ z. omega arith))
 
 -- so is the number of buckets
-allowed : (c : tie.Else3) → allowed_buckets (start (judged c.before.before)).args.buckets ≡ true
-allowed c = buckets-allowed c.before.if2.false (ltb-false _ _ c.if3.false)
+allowed : (c : tie.Else-buckets-gt4096) → allowed_buckets (start (judged c.before.before)).args.buckets ≡ true
+allowed c = buckets-allowed c.before.if-buckets-eq0.false (ltb-false _ _ c.if-buckets-gt4096.false)
 
-returns-3 : tie.Need-returns-3
+returns-3 : tie.Need-returns-then-cache-length
 returns-3 c =
     let sized = c.before.before in
     let e3 = sized.before in
     let e1 = e3.before.before in
     let a = (start (judged e1)).args in
-    let wrong = size-wrong (⊎_elim (λ then. inl then.taken) (λ else. inr (ltb-true _ _ else.1.taken)) c.before.if4.branch) in
-    let e = size-refused a.catalogue.now a.buckets a.cache.now (good e1) (allowed e3) (rw sized.size.ensures at wrong) in
-    (write-refused a.catalogue.now a.buckets a.cache.now e (λ z. omega arith) c.refusal3.ensures, leaves_all a.catalogue.now a.buckets a.cache.now e (λ z. omega arith))
+    let wrong = size-wrong (⊎_elim (λ then. inl then.taken) (λ else. inr (ltb-true _ _ else.1.taken)) c.before.if-cache-length.branch) in
+    let e = size-refused a.catalogue.now a.buckets a.cache.now (good e1) (allowed e3) (rw sized.size-length.ensures at wrong) in
+    (write-refused a.catalogue.now a.buckets a.cache.now e (λ z. omega arith) c.refusal-then-cache-length.ensures, leaves_all a.catalogue.now a.buckets a.cache.now e (λ z. omega arith))
 
 -- and the size
-module _ (c : tie.Else5) where
-  abbrev sized : tie.After-size
+module _ (c : tie.Else-length-gt16777216) where
+  abbrev sized : tie.After-size-length
   sized = c.before.before
 
   fits : let a = (start (judged sized.before.before.before)).args in
       Fits (catalogue_in a.catalogue.now) a.buckets a.cache.now
   fits =
       let e3 = sized.before in
-      let short : sized.size.result ≤ 16777216 = ltb-false _ _ c.if5.false in
+      let short : sized.size-length.result ≤ 16777216 = ltb-false _ _ c.if-length-gt16777216.false in
       record {
-        some = omega (arith, e3.before.if2.left);
-        few = ltb-false _ _ e3.if3.left;
-        room = omega (arith, sized.size.ensures, c.before.if4.false);
-        short = omega (arith, sized.size.ensures);
+        some = omega (arith, e3.before.if-buckets-eq0.left);
+        few = ltb-false _ _ e3.if-buckets-gt4096.left;
+        room = omega (arith, sized.size-length.ensures, c.before.if-cache-length.false);
+        short = omega (arith, sized.size-length.ensures);
       }
 
-returns-4 : tie.Need-returns-4
+returns-4 : tie.Need-returns
 returns-4 c =
     let filled = c.before.before in
     let e5 = filled.before.before in
@@ -92,7 +92,7 @@ returns-4 c =
     let a = (start (judged e1)).args in
     let f = fits e5 in
     let ok = size-allowed f.room f.short in
-    (ap (write_is 0 0) (sized e5).size.ensures ∙ write_done a.catalogue.now a.buckets a.cache.now (good e1) (allowed e3) ok, leaves-written a.catalogue.now a.buckets a.cache.now (good e1) (allowed e3) ok filled.fill.ensures)
+    (ap (write_is 0 0) (sized e5).size-length.ensures ∙ write_done a.catalogue.now a.buckets a.cache.now (good e1) (allowed e3) ok, leaves-written a.catalogue.now a.buckets a.cache.now (good e1) (allowed e3) ok filled.fill.ensures)
 
 pub write_spec : {M : Type 1} → statement M
 write_spec =
@@ -103,7 +103,7 @@ write_spec =
     returns
     (λ c κs. search rules)
     returns-2
-    (λ c κs. (by_parts c.before.before, ltb-false _ _ c.if3.false))
+    (λ c κs. (by_parts c.before.before, ltb-false _ _ c.if-buckets-gt4096.false))
     (λ c κs. search rules)
     returns-3
     (λ c κs. (by_parts (sized c.before).before.before.before, fits c.before))

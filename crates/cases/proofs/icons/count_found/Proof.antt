@@ -3,14 +3,14 @@ use Rattle.std.proofs.Common.{◌-◌, rules}
 use Rattle.cases.proofs.icons.count_found.Statement.{statement}
 use Rattle.cases.proofs.icons.count_found.Tie as tie
 
-abbrev invariant-loop : tie.invariant-loop
+abbrev invariant-loop : tie.invariant-loop-i
 invariant-loop cache count₀ i₀ count i = Unit {0}
 
-abbrev decreases-loop : tie.decreases-loop
+abbrev decreases-loop : tie.decreases-loop-i
 decreases-loop cache count₀ i₀ count i = 90 - i
 
-pub count-found-spec : {M : Type 1} → statement M
-count-found-spec =
+pub count_found_spec : {M : Type 1} → statement M
+count_found_spec =
     tie.close
     (tie.spec
     invariant-loop

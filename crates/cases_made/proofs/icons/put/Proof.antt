@@ -3,10 +3,10 @@ use Rattle.std.proofs.Common.{◌≡◌, ◌-◌, length, rules}
 use Rattle.cases_made.proofs.icons.put.Statement.{statement}
 use Rattle.cases_made.proofs.icons.put.Tie as tie
 
-abbrev invariant-loop : tie.invariant-loop
+abbrev invariant-loop : tie.invariant-loop-i
 invariant-loop cache₀ i₀ cache i = length cache ≡ length cache₀
 
-abbrev decreases-loop : tie.decreases-loop
+abbrev decreases-loop : tie.decreases-loop-i
 decreases-loop cache₀ i₀ cache i = 90 - i
 
 pub put_spec : {M : Type 1} → statement M

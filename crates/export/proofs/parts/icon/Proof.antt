@@ -17,14 +17,14 @@ returns c =
     let lists = measured.before in
     let names = lists.before in
     let s = names.before.before.args.cache.now in
-    let name = names.u32-at.ensures in
-    let long = measured.name-length.ensures ∙ ap (λ p. length (string (drop p s))) name in
-    let list = lists.u32-at2.ensures in
-    let count = c.u32-at3.ensures ∙ ap (be 4 s) list in
+    let name = names.u32_at-name.ensures in
+    let long = measured.name_length.ensures ∙ ap (λ p. length (string (drop p s))) name in
+    let list = lists.u32_at-list.ensures in
+    let count = c.u32_at.ensures ∙ ap (be 4 s) list in
     λ j. record { name = name j; length = long j; images = list j + 4; count = count j }
 
-pub icon-spec : {M : Type 1} → statement M
-icon-spec =
+pub icon_spec : {M : Type 1} → statement M
+icon_spec =
     tie.close
     (tie.spec
     (λ c. omega (arith, icon-inside c.before.requires))
@@ -33,8 +33,8 @@ icon-spec =
     (λ c. search rules)
     (λ c κs. omega (arith, icon-inside c.before.before.requires))
     (λ c. search rules)
-    (λ c κs. ap (λ p. is_whole (extent 255 (drop p c.before.before.before.args.cache.now))) c.before.u32-at.ensures ∙ (icon-inside c.before.before.before.requires).whole)
+    (λ c κs. ap (λ p. is_whole (extent 255 (drop p c.before.before.before.args.cache.now))) c.before.u32_at-name.ensures ∙ (icon-inside c.before.before.before.requires).whole)
     (λ c. search rules)
-    (λ c κs. omega (arith, c.before.u32-at2.ensures, (icon-inside c.before.before.before.before.requires).listed))
+    (λ c κs. omega (arith, c.before.u32_at-list.ensures, (icon-inside c.before.before.before.before.requires).listed))
     (λ c. search rules)
     returns)

@@ -9,12 +9,12 @@ use Rattle.export.specs.Laws.Parts.{icon-inside, icon-length}
 use Rattle.export.proofs.parts.icon_size.Statement.{statement}
 use Rattle.export.proofs.parts.icon_size.Tie as tie
 
-module _ (c : tie.After-icon) where
-  name-size : c.icon.result.length ≡ length (name_of c.before.before.args.cache.now c.before.before.args.«record»)
-  name-size = ap (λ (p : IconParts). p.length) c.icon.ensures
+module _ (c : tie.After-icon-parts) where
+  name-size : c.icon-parts.result.length ≡ length (name_of c.before.before.args.cache.now c.before.before.args.«record»)
+  name-size = ap (λ (p : IconParts). p.length) c.icon-parts.ensures
 
-  count-is : c.icon.result.count ≡ images c.before.before.args.cache.now c.before.before.args.«record»
-  count-is = ap (λ (p : IconParts). p.count) c.icon.ensures
+  count-is : c.icon-parts.result.count ≡ images c.before.before.args.cache.now c.before.before.args.«record»
+  count-is = ap (λ (p : IconParts). p.count) c.icon-parts.ensures
 
 returns : tie.Need-returns
 returns c =
@@ -25,8 +25,8 @@ returns c =
     let inside = icon-inside start.requires in
     (omega (arith, icon-length start.args.cache.now start.args.«record»), omega arith)
 
-pub icon-size-spec : {M : Type 1} → statement M
-icon-size-spec =
+pub icon_size_spec : {M : Type 1} → statement M
+icon_size_spec =
     tie.close
     (tie.spec
     (λ c κs. search rules)

@@ -18,7 +18,7 @@ returns c =
     let a = start.args in
     let s = a.cache.now in
     put_then a.out.now a.place (bytes 2 a.count) (part s a.start a.n) (ap (λ m. a.place + m) (bytes-length 2 a.count))
-    (omega (arith, part_length s a.start a.n start.requires.0, start.requires.1)) first.put-u16.ensures c.before.before.copy.ensures
+    (omega (arith, part_length s a.start a.n start.requires.0, start.requires.1)) first.put_u16.ensures c.before.before.copy.ensures
 
 pub counted_spec : {M : Type 1} → statement M
 counted_spec = tie.close (tie.spec (λ c κs. search rules) (λ c. search rules) (λ c κs. search rules) (λ c. search rules) returns)

@@ -20,5 +20,5 @@ returns c =
     put_then a.out.now a.place (bytes 1 a.size) (part s a.start a.size) (ap (λ m. a.place + m) (bytes-length 1 a.size))
     (omega (arith, part_length s a.start a.size start.requires.0, start.requires.1)) first.put_byte.ensures c.before.before.copy.ensures
 
-pub name-spec : {M : Type 1} → statement M
-name-spec = tie.close (tie.spec (λ c κs. search rules) (λ c. search rules) (λ c κs. search rules) (λ c. search rules) returns)
+pub name_spec : {M : Type 1} → statement M
+name_spec = tie.close (tie.spec (λ c κs. search rules) (λ c. search rules) (λ c κs. search rules) (λ c. search rules) returns)

@@ -11,40 +11,40 @@ use Rattle.export.specs.Parts.{path_piece}
 use Rattle.export.proofs.putting.paths.Statement.{statement}
 use Rattle.export.proofs.putting.paths.Tie as tie
 
-abbrev invariant-loop : tie.invariant-loop
+abbrev invariant-loop : tie.invariant-loop-i
 invariant-loop cache t out₀ at n place₀ i₀ out place i = (i ≤ n) × Pass (λ j. j + 1) 0 (path_piece cache) out₀ at out i place i
 
-abbrev decreases-loop : tie.decreases-loop
+abbrev decreases-loop : tie.decreases-loop-i
 decreases-loop cache t out₀ at n place₀ i₀ out place i = n - i
 
-loop-holds : tie.Need-loop-init invariant-loop decreases-loop
+loop-holds : tie.Need-loop-i-init invariant-loop decreases-loop
 loop-holds c = (omega arith, pass-first _ _ _ _ _)
 
-abbrev start : tie.At-loop invariant-loop decreases-loop → tie.Start invariant-loop decreases-loop
+abbrev start : tie.At-loop-i invariant-loop decreases-loop → tie.Start invariant-loop decreases-loop
 start l = l.before.before.before
 
-module _ (c : tie.In-loop invariant-loop decreases-loop) where
-  below : c.before.loop.i < directories (start c.before).args.cache.now
+module _ (c : tie.In-loop-i invariant-loop decreases-loop) where
+  below : c.before.loop-i.i < directories (start c.before).args.cache.now
   below = omega (arith, same-directories (start c.before).pre.0.tables)
 
-  room : let l = c.before in l.loop.place + length (path_piece (start l).args.cache.now l.loop.i) ≤ length l.loop.out
-  room = pass-room _ _ _ _ _ c.before.loop.invariant.1 below (start c.before).pre.1
+  room : let l = c.before in l.loop-i.place + length (path_piece (start l).args.cache.now l.loop-i.i) ≤ length l.loop-i.out
+  room = pass-room _ _ _ _ _ c.before.loop-i.invariant.1 below (start c.before).pre.1
 
-loop-again : tie.Need-loop-preserved invariant-loop decreases-loop
+loop-again : tie.Need-loop-i-preserved invariant-loop decreases-loop
 loop-again c =
     let done = c.before.before in
     let turn = done.before.before in
     let l = turn.before in
-    (omega arith, pass-next _ _ _ _ _ l.loop.invariant.1 (below turn) (start l).requires.1 done.path.ensures.0 (omega arith) refl done.path.ensures.1)
+    (omega arith, pass-next _ _ _ _ _ l.loop-i.invariant.1 (below turn) (start l).requires.1 done.path-place.ensures.0 (omega arith) refl done.path-place.ensures.1)
 
 returns : tie.Need-returns invariant-loop decreases-loop
 returns c =
     let l = c.before in
-    let all : l.loop.i ≡ directories (start l).args.cache.now = omega (arith, same-directories (start l).requires.0.tables) in
-    pass-done _ _ _ _ _ l.loop.invariant.1 all
+    let all : l.loop-i.i ≡ directories (start l).args.cache.now = omega (arith, same-directories (start l).requires.0.tables) in
+    pass-done _ _ _ _ _ l.loop-i.invariant.1 all
 
-pub paths-spec : {M : Type 1} → statement M
-paths-spec =
+pub paths_spec : {M : Type 1} → statement M
+paths_spec =
     tie.close
     (tie.spec
     invariant-loop

@@ -9,36 +9,36 @@ use Rattle.export.specs.Laws.Pieces.{entry_kept, piece-more}
 use Rattle.export.proofs.sizes.icons.Statement.{statement}
 use Rattle.export.proofs.sizes.icons.Tie as tie
 
-abbrev invariant-loop : tie.invariant-loop
+abbrev invariant-loop : tie.invariant-loop-i
 invariant-loop cache index n size₀ i₀ size i = (i ≤ n) × (size ≡ length (joined (icon_piece cache index) i)) × (size ≤ 8450 * i)
 
-abbrev decreases-loop : tie.decreases-loop
+abbrev decreases-loop : tie.decreases-loop-i
 decreases-loop cache index n size₀ i₀ size i = n - i
 
-loop-holds : tie.Need-loop-init invariant-loop decreases-loop
+loop-holds : tie.Need-loop-i-init invariant-loop decreases-loop
 unfolding joined
 loop-holds c = (omega arith, refl, omega arith)
 
-icon-size-requires : tie.Need-icon-size-requires invariant-loop decreases-loop
+icon-size-requires : tie.Need-icon_size-size-requires invariant-loop decreases-loop
 icon-size-requires c κs =
     let l = c.before.before in
-    entry_kept l.before.before.before.requires l.loop.i c.before.loop-test.true
+    entry_kept l.before.before.before.requires l.loop-i.i c.before.loop-i-test.true
 
-loop-again : tie.Need-loop-preserved invariant-loop decreases-loop
+loop-again : tie.Need-loop-i-preserved invariant-loop decreases-loop
 loop-again c =
     let l = c.before.before.before in
     let a = l.before.before.before.args in
-    (omega arith, omega (arith, piece-more (icon_piece a.cache.now a.index.now) l.loop.i), omega arith)
+    (omega arith, omega (arith, piece-more (icon_piece a.cache.now a.index.now) l.loop-i.i), omega arith)
 
 returns : tie.Need-returns invariant-loop decreases-loop
 returns c =
     let l = c.before in
     let a = l.before.before.before.args in
-    let all : l.loop.i ≡ a.n = omega arith in
-    (l.loop.invariant.1 ∙ ap (λ i. length (joined (icon_piece a.cache.now a.index.now) i)) all, omega arith)
+    let all : l.loop-i.i ≡ a.n = omega arith in
+    (l.loop-i.invariant.1 ∙ ap (λ i. length (joined (icon_piece a.cache.now a.index.now) i)) all, omega arith)
 
-pub icons-spec : {M : Type 1} → statement M
-icons-spec =
+pub icons_spec : {M : Type 1} → statement M
+icons_spec =
     tie.close
     (tie.spec
     invariant-loop
@@ -46,7 +46,7 @@ icons-spec =
     loop-holds
     (λ c. let start = c.before.before.before.before in omega (arith, start.requires.few))
     (λ c. let start = c.before.before.before.before.before in omega (arith, start.requires.room))
-    (λ c. omega (arith, c.shared-slice-known3.given c.before.before.loop.i))
+    (λ c. omega (arith, c.shared_slice_known-in-loop-i-1.given c.before.before.loop-i.i))
     icon-size-requires
     (λ c. let start = c.before.before.before.before.before.before in omega (arith, start.requires.few))
     (λ c. let start = c.before.before.before.before.before.before in omega (arith, start.requires.few))

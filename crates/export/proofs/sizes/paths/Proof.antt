@@ -11,37 +11,37 @@ use Rattle.export.specs.Laws.Pieces.{piece-more}
 use Rattle.export.proofs.sizes.paths.Statement.{statement}
 use Rattle.export.proofs.sizes.paths.Tie as tie
 
-abbrev invariant-loop : tie.invariant-loop
+abbrev invariant-loop : tie.invariant-loop-i
 invariant-loop cache t n size₀ i₀ size i = (i ≤ n) × (size ≡ length (joined (path_piece cache) i)) × (size ≤ 1025 * i)
 
-abbrev decreases-loop : tie.decreases-loop
+abbrev decreases-loop : tie.decreases-loop-i
 decreases-loop cache t n size₀ i₀ size i = n - i
 
-loop-holds : tie.Need-loop-init invariant-loop decreases-loop
+loop-holds : tie.Need-loop-i-init invariant-loop decreases-loop
 unfolding joined
 loop-holds c = (omega arith, refl, omega arith)
 
-path-size-requires : tie.Need-path-size-requires invariant-loop decreases-loop
+path-size-requires : tie.Need-path_size-size-requires invariant-loop decreases-loop
 path-size-requires c κs =
     let start = c.before.before.before in
     (start.requires, omega (arith, same-directories start.requires.tables))
 
-loop-again : tie.Need-loop-preserved invariant-loop decreases-loop
+loop-again : tie.Need-loop-i-preserved invariant-loop decreases-loop
 loop-again c =
     let l = c.before.before in
     let a = l.before.before.args in
-    (omega arith, omega (arith, piece-more (path_piece a.cache.now) l.loop.i), omega arith)
+    (omega arith, omega (arith, piece-more (path_piece a.cache.now) l.loop-i.i), omega arith)
 
 returns : tie.Need-returns invariant-loop decreases-loop
 returns c =
     let l = c.before in
     let start = l.before.before in
     let s = start.args.cache.now in
-    let all : l.loop.i ≡ directories s = omega (arith, same-directories start.requires.tables) in
-    (l.loop.invariant.1 ∙ ap (λ i. length (joined (path_piece s) i)) all, omega arith)
+    let all : l.loop-i.i ≡ directories s = omega (arith, same-directories start.requires.tables) in
+    (l.loop-i.invariant.1 ∙ ap (λ i. length (joined (path_piece s) i)) all, omega arith)
 
-pub paths-spec : {M : Type 1} → statement M
-paths-spec =
+pub paths_spec : {M : Type 1} → statement M
+paths_spec =
     tie.close
     (tie.spec
     invariant-loop

@@ -14,8 +14,8 @@ returns c =
     let a = start.args in
     omega (arith, ap length (pieces_are start.requires), pieces-length a.cache.now a.index.now a.n, c.before.paths.ensures.0, c.icons.ensures.0)
 
-pub whole-spec : {M : Type 1} → statement M
-whole-spec =
+pub whole_spec : {M : Type 1} → statement M
+whole_spec =
     tie.close
     (tie.spec
     (λ c κs. search rules)

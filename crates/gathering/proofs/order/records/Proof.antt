@@ -14,40 +14,40 @@ use Rattle.gathering.specs.Laws.Order.{gathered_none, gathered-ordered, fewer-be
 use Rattle.gathering.proofs.order.records.Statement.{statement}
 use Rattle.gathering.proofs.order.records.Tie as tie
 
-abbrev invariant-loop : tie.invariant-loop
+abbrev invariant-loop : tie.invariant-loop-bucket
 invariant-loop cache t index₀ buckets n₀ bucket₀ index n bucket = (length index ≡ length index₀) × (bucket ≤ buckets) × Gathered index n (records_below Short cache bucket)
 
-abbrev decreases-loop : tie.decreases-loop
+abbrev decreases-loop : tie.decreases-loop-bucket
 decreases-loop cache t index₀ buckets n₀ bucket₀ index n bucket = buckets - bucket
 
-loop-holds : tie.Need-loop-init invariant-loop decreases-loop
+loop-holds : tie.Need-loop-bucket-init invariant-loop decreases-loop
 unfolding records_below
 loop-holds c = (refl, omega arith, gathered_none _)
 
-take-chain-requires : tie.Need-take-chain-requires invariant-loop decreases-loop
+take-chain-requires : tie.Need-take_chain-n-requires invariant-loop decreases-loop
 take-chain-requires c κs =
     let l = c.before.before in
     let start = l.before.before.before in
     let s = start.args.cache.now in
-    let k = suc l.loop.bucket in
+    let k = suc l.loop-bucket.bucket in
     let count = same-buckets start.requires.0.tables in
     let all : header.buckets s - k + k ≡ header.buckets s = omega arith in
     let few : length (records_below Short s k) ≤ length start.args.index.now = omega (arith, rw all at (fewer-below s k (header.buckets s - k)), start.requires.1) in
-    ((start.requires.0, omega arith), (l.loop.invariant.2, omega (arith, l.loop.invariant.0)))
+    ((start.requires.0, omega arith), (l.loop-bucket.invariant.2, omega (arith, l.loop-bucket.invariant.0)))
 
-loop-again : tie.Need-loop-preserved invariant-loop decreases-loop
-loop-again c = (omega arith, omega arith, rw add-one c.before.before.take-chain.ensures)
+loop-again : tie.Need-loop-bucket-preserved invariant-loop decreases-loop
+loop-again c = (omega arith, omega arith, rw add-one c.before.before.take_chain-n.ensures)
 
 returns : tie.Need-returns invariant-loop decreases-loop
 returns c =
     let l = c.before in
     let start = l.before.before.before in
     let s = start.args.cache.now in
-    let all : l.loop.bucket ≡ header.buckets s = omega (arith, same-buckets start.requires.0.tables) in
-    gathered-ordered start.requires.0.accepted (rw all at l.loop.invariant.2)
+    let all : l.loop-bucket.bucket ≡ header.buckets s = omega (arith, same-buckets start.requires.0.tables) in
+    gathered-ordered start.requires.0.accepted (rw all at l.loop-bucket.invariant.2)
 
-pub records-spec : {M : Type 1} → statement M
-records-spec =
+pub records_spec : {M : Type 1} → statement M
+records_spec =
     tie.close
     (tie.spec
     invariant-loop

@@ -4,14 +4,14 @@ use Rattle.gathering.specs.Laws.Order.{gathered-more}
 use Rattle.gathering.proofs.order.take_in.Statement.{statement}
 use Rattle.gathering.proofs.order.take_in.Tie as tie
 
-returns : tie.Need-returns
-returns c rs h = rw c.if1.true at (gathered-more h (c.before.before.before.met.ensures h.met h.known))
+returns : tie.Need-returns-then-met
+returns c rs h = rw c.if-met.true at (gathered-more h (c.before.before.before.met.ensures h.met h.known))
 
-returns-2 : tie.Need-returns-2
-returns-2 c rs h = rw c.if1.false at (gathered-more h (c.before.before.before.met.ensures h.met h.known))
+returns-2 : tie.Need-returns
+returns-2 c rs h = rw c.if-met.false at (gathered-more h (c.before.before.before.met.ensures h.met h.known))
 
-pub take-in-spec : {M : Type 1} → statement M
-take-in-spec =
+pub take_in_spec : {M : Type 1} → statement M
+take_in_spec =
     tie.close
     (tie.spec
     (λ c κs. search rules)

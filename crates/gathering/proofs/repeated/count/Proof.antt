@@ -12,33 +12,33 @@ use Rattle.gathering.specs.Laws.Walks.{chain-holds, stands-first, stands-ended, 
 use Rattle.gathering.proofs.repeated.count.Statement.{statement}
 use Rattle.gathering.proofs.repeated.count.Tie as tie
 
-abbrev invariant-loop : tie.invariant-loop
+abbrev invariant-loop : tie.invariant-loop-bucket
 invariant-loop cache bucket field₀ n₀ field n = Stands cache bucket field n
 
-abbrev decreases-loop : tie.decreases-loop
+abbrev decreases-loop : tie.decreases-loop-bucket
 decreases-loop cache bucket field₀ n₀ field n = length cache - n
 
-loop-holds : tie.Need-loop-init invariant-loop decreases-loop
+loop-holds : tie.Need-loop-bucket-init invariant-loop decreases-loop
 loop-holds c =
     let start = c.before.before in
-    stands-first start.requires.0 start.requires.1 (c.bucket-field.ensures ∙ same-field start.requires.0.tables start.args.bucket)
+    stands-first start.requires.0 start.requires.1 (c.bucket_field-field.ensures ∙ same-field start.requires.0.tables start.args.bucket)
 
-returns : tie.Need-returns invariant-loop decreases-loop
-returns c = let read = c.before in stands-ended read.before.loop.invariant read.u32-at.ensures c.if1.true
+returns : tie.Need-returns-then-record invariant-loop decreases-loop
+returns c = let read = c.before in stands-ended read.before.loop-bucket.invariant read.u32_at-record.ensures c.if-record.true
 
-few : (c : tie.Else1 invariant-loop decreases-loop) → c.before.before.loop.n < length c.before.before.before.before.before.args.cache.now
+few : (c : tie.Else-record invariant-loop decreases-loop) → c.before.before.loop-bucket.n < length c.before.before.before.before.before.args.cache.now
 few c =
     let read = c.before in
     let start = read.before.before.before.before in
     let (n, h) = chain-holds start.requires.0 start.args.bucket start.requires.1 in
-    omega (arith, stands-below read.before.loop.invariant h read.u32-at.ensures c.if1.false, holds-few h)
+    omega (arith, stands-below read.before.loop-bucket.invariant h read.u32_at-record.ensures c.if-record.false, holds-few h)
 
-loop-again : tie.Need-loop-preserved invariant-loop decreases-loop
+loop-again : tie.Need-loop-bucket-preserved invariant-loop decreases-loop
 loop-again c =
     let read = c.before in
     let start = read.before.before.before.before in
     let (n, h) = chain-holds start.requires.0 start.args.bucket start.requires.1 in
-    stands-next read.before.loop.invariant h read.u32-at.ensures c.if1.false
+    stands-next read.before.loop-bucket.invariant h read.u32_at-record.ensures c.if-record.false
 
 pub count_spec : {M : Type 1} → statement M
 count_spec =
@@ -48,7 +48,7 @@ count_spec =
     decreases-loop
     (λ c κs. search rules)
     loop-holds
-    (λ c κs. c.loop.invariant.inside)
+    (λ c κs. c.loop-bucket.invariant.inside)
     returns
     (λ c. search rules)
     (λ c. omega (arith, few c))

@@ -11,46 +11,46 @@ use Rattle.gathering.specs.Laws.Buckets.{PassedChains, chains-first, chains-next
 use Rattle.gathering.proofs.repeated.in_cache.Statement.{statement}
 use Rattle.gathering.proofs.repeated.in_cache.Tie as tie
 
-abbrev invariant-loop : tie.invariant-loop
+abbrev invariant-loop : tie.invariant-loop-bucket
 invariant-loop cache t index₀ buckets bucket₀ index bucket = (length index ≡ length index₀) × (bucket ≤ buckets) × PassedChains cache bucket
 
-abbrev decreases-loop : tie.decreases-loop
+abbrev decreases-loop : tie.decreases-loop-bucket
 decreases-loop cache t index₀ buckets bucket₀ index bucket = buckets - bucket
 
-loop-holds : tie.Need-loop-init invariant-loop decreases-loop
+loop-holds : tie.Need-loop-bucket-init invariant-loop decreases-loop
 loop-holds c = (omega arith, omega arith, chains-first _)
 
-on-chain-requires : tie.Need-on-chain-requires invariant-loop decreases-loop
+on-chain-requires : tie.Need-on_chain-fault-requires invariant-loop decreases-loop
 on-chain-requires c κs =
     let start = c.before.before.before.before.before in
     (start.requires.0, omega (arith, same-buckets start.requires.0.tables), omega arith)
 
-returns : tie.Need-returns invariant-loop decreases-loop
+returns : tie.Need-returns-then-fault-ne0 invariant-loop decreases-loop
 returns c =
     let judged = c.before.before.before.before in
     let l = judged.before.before.before in
     let start = l.before.before.before in
-    let told = judged.on_chain.ensures in
+    let told = judged.on_chain-fault.ensures in
     told
-    ∙ chains-broken start.requires.0.accepted l.loop.invariant.2 (omega (arith, same-buckets start.requires.0.tables)) (λ z. c.if1.true (same_number told ∙ z))
+    ∙ chains-broken start.requires.0.accepted l.loop-bucket.invariant.2 (omega (arith, same-buckets start.requires.0.tables)) (λ z. c.if-fault-ne0.true (same_number told ∙ z))
 
-loop-again : tie.Need-loop-preserved invariant-loop decreases-loop
+loop-again : tie.Need-loop-bucket-preserved invariant-loop decreases-loop
 loop-again c =
     let judged = c.before.before.before.before in
     let l = judged.before.before.before in
     let start = l.before.before.before in
-    let told = judged.on_chain.ensures in
-    let next = chains-next start.requires.0.accepted l.loop.invariant.2 (omega (arith, same-buckets start.requires.0.tables)) (sym (same_number told) ∙ c.if1.false) in
+    let told = judged.on_chain-fault.ensures in
+    let next = chains-next start.requires.0.accepted l.loop-bucket.invariant.2 (omega (arith, same-buckets start.requires.0.tables)) (sym (same_number told) ∙ c.if-fault-ne0.false) in
     (omega arith, omega arith, rw add-one next)
 
-returns-2 : tie.Need-returns-2 invariant-loop decreases-loop
+returns-2 : tie.Need-returns invariant-loop decreases-loop
 returns-2 c =
     let l = c.before in
     let start = l.before.before.before in
-    chains-all start.requires.0.accepted l.loop.invariant.2 (omega (arith, same-buckets start.requires.0.tables))
+    chains-all start.requires.0.accepted l.loop-bucket.invariant.2 (omega (arith, same-buckets start.requires.0.tables))
 
-pub in-cache-spec : {M : Type 1} → statement M
-in-cache-spec =
+pub in_cache_spec : {M : Type 1} → statement M
+in_cache_spec =
     tie.close
     (tie.spec
     invariant-loop

@@ -12,39 +12,39 @@ use Rattle.listing.proofs.Position.go_further.Statement.{statement}
 use Rattle.listing.proofs.Position.go_further.Tie as tie
 
 -- what comes after the records passed
-follows : (c : tie.After-finish) {l : Next} → c.finish.result.after ≡ l
+follows : (c : tie.After-finish-chain) {l : Next} → c.finish-chain.result.after ≡ l
     → let a = c.before.before.before.args in
     let q = a.self in
-    reached q a.bucket q.count l ≡ reached q a.bucket q.count (chain_of Short a.cache.now a.bucket q.count).after
+    reached q a.bucket q.count l ≡ reached q a.bucket q.count (chain_of Short a.cache.now a.bucket q.count).after-1
 follows c e =
     let a = c.before.before.before.args in
-    ap (reached a.self a.bucket a.self.count) (sym e ∙ ap (λ (w : Walked). w.after) (c.finish.ensures _ c.before.go_on.ensures))
+    ap (reached a.self a.bucket a.self.count) (sym e ∙ ap (λ (w : Walked). w.after-1) (c.finish-chain.ensures _ c.before.go_on-judged.ensures))
 
-finish-requires : tie.Need-finish-requires
+finish-requires : tie.Need-finish-chain-requires
 finish-requires c κs =
     let start = c.before.before in
-    ((start.requires.1.0.2, omega (arith, valid-header start.requires.0)), (start.args.bucket, c.go_on.ensures))
+    ((start.requires.1.0.2, omega (arith, valid-header start.requires.0)), (start.args.bucket, c.go_on-judged.ensures))
 
-returns : tie.Need-returns
-returns c = c.hand-back.ensures ∙ follows c.before.before.before.before c.before.before.after.given.1
+returns : tie.Need-returns-in-Record
+returns c = c.hand_back.ensures ∙ follows c.before.before.before.before c.before.before.after-1.given.1
 
-returns-2 : tie.Need-returns-2
-returns-2 c = c.stay.ensures ∙ follows c.before.before.before.before c.before.before.after2.given.1
+returns-2 : tie.Need-returns-in-Broken
+returns-2 c = c.stay.ensures ∙ follows c.before.before.before.before c.before.before.after-in-Broken-1.given.1
 
-returns-3 : tie.Need-returns-3
-returns-3 c = c.stay2.ensures ∙ follows c.before.before.before c.before.enum_told.given.1
+returns-3 : tie.Need-returns-in-End
+returns-3 c = c.stay-in-End.ensures ∙ follows c.before.before.before c.before.enum_told-1.given.1
 
-pub go-further-spec : {M : Type 1} → statement M
-go-further-spec =
+pub go_further_spec : {M : Type 1} → statement M
+go_further_spec =
     tie.close
     (tie.spec
     (λ c κs. search rules)
     finish-requires
-    (λ c. c.match.keys1)
+    (λ c. c.in-Record.keys1)
     (λ c κs. let pre = c.before.before.before.before.before.before.requires in omega (arith, pre.1.0.2, valid-header pre.0))
-    (λ c. c.match.keys2)
+    (λ c. c.in-Record.keys2)
     (λ c κs. search rules)
-    (λ c. c.match.keys3)
+    (λ c. c.in-Record.keys3)
     (λ c κs. search rules)
     returns
     returns-2

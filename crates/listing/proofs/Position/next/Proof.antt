@@ -11,42 +11,42 @@ use Rattle.listing.specs.Laws.Steps.{position-header, position-no-bucket, positi
 use Rattle.listing.proofs.Position.next.Statement.{statement}
 use Rattle.listing.proofs.Position.next.Tie as tie
 
-header-kept : (c : tie.Else1) → (header_fault c.before.before.before.before.args.cache.now).number ≡ 0
-header-kept c = rw c.before.before.header.ensures at c.if1.false
+header-kept : (c : tie.Else-header-ne0) → (header_fault c.before.before.before.before.args.cache.now).number ≡ 0
+header-kept c = rw c.before.before.header-header.ensures at c.if-header-ne0.false
 
-returns : tie.Need-returns
+returns : tie.Need-returns-then-header-ne0
 returns c =
-    let hdr = c.before.before.before.header in
-    let broken = position-header _ _ (rw hdr.ensures at c.before.if1.true) ∙ sym hdr.ensures in
-    c.stay.ensures ∙ sym (step-refuses _ _ broken c.before.if1.true)
+    let hdr = c.before.before.before.header-header in
+    let broken = position-header _ _ (rw hdr.ensures at c.before.if-header-ne0.true) ∙ sym hdr.ensures in
+    c.stay.ensures ∙ sym (step-refuses _ _ broken c.before.if-header-ne0.true)
 
-returns-2 : tie.Need-returns-2
+returns-2 : tie.Need-returns-then-t-self
 returns-2 c =
     let tabled = c.before.before.before.before in
-    let beyond = position-no-bucket _ _ tabled.read.ensures.header (rw (same-buckets tabled.read.ensures) at c.before.if2.true) in
-    c.stay2.ensures ∙ sym (step-refuses _ _ beyond (λ z. omega arith))
+    let beyond = position-no-bucket _ _ tabled.read-t.ensures.header (rw (same-buckets tabled.read-t.ensures) at c.before.if-t-self.true) in
+    c.stay-then-t-self.ensures ∙ sym (step-refuses _ _ beyond (λ z. omega arith))
 
-returns-3 : tie.Need-returns-3
+returns-3 : tie.Need-returns-then-cache-self
 returns-3 c =
     let tabled = c.before.before.before.before.before.before in
-    let named = rw (same-buckets tabled.read.ensures) at c.before.before.before.if2.false in
-    let beyond = position-counts-too-far _ _ tabled.read.ensures.header named c.before.if3.true in
-    c.stay3.ensures ∙ sym (step-refuses _ _ beyond (λ z. omega arith))
+    let named = rw (same-buckets tabled.read-t.ensures) at c.before.before.before.if-t-self.false in
+    let beyond = position-counts-too-far _ _ tabled.read-t.ensures.header named c.before.if-cache-self.true in
+    c.stay-then-cache-self.ensures ∙ sym (step-refuses _ _ beyond (λ z. omega arith))
 
 onward-requires : tie.Need-onward-requires
 onward-requires c κs =
     let tabled = c.before.before.before.before.before in
-    (tabled.read.ensures, (rw (same-buckets tabled.read.ensures) at c.before.before.if2.false, c.if3.false))
+    (tabled.read-t.ensures, (rw (same-buckets tabled.read-t.ensures) at c.before.before.if-t-self.false, c.if-cache-self.false))
 
-returns-4 : tie.Need-returns-4
+returns-4 : tie.Need-returns
 returns-4 c =
     let tabled = c.before.before.before.before.before.before in
-    let named = rw (same-buckets tabled.read.ensures) at c.before.before.before.if2.false in
-    let none = position-valid _ _ tabled.read.ensures.header named c.before.if3.false in
+    let named = rw (same-buckets tabled.read-t.ensures) at c.before.before.before.if-t-self.false in
+    let none = position-valid _ _ tabled.read-t.ensures.header named c.before.if-cache-self.false in
     c.onward.ensures ∙ sym (step-goes _ _ (same_number none))
 
-pub next-spec : {M : Type 1} → statement M
-next-spec =
+pub next_spec : {M : Type 1} → statement M
+next_spec =
     tie.close
     (tie.spec
     (λ c κs. search rules)
@@ -56,7 +56,7 @@ next-spec =
     (λ c. search rules)
     (λ c κs. search rules)
     returns-2
-    (λ c. omega (arith, valid-header c.before.before.before.read.ensures))
+    (λ c. omega (arith, valid-header c.before.before.before.read-t.ensures))
     (λ c κs. search rules)
     returns-3
     onward-requires

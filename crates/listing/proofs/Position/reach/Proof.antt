@@ -11,30 +11,30 @@ use Rattle.listing.specs.Reach.{reached}
 use Rattle.listing.proofs.Position.reach.Statement.{statement}
 use Rattle.listing.proofs.Position.reach.Tie as tie
 
-go-further-requires : tie.Need-go-further-requires
+go-further-requires : tie.Need-go_further-requires
 go-further-requires c κs =
     let pre = c.before.before.requires in
-    let own = pre.1.1.0 c.if1.true in
+    let own = pre.1.1.0 c.if-walked-passed.true in
     let keeps = (walked-goes _ _ _ refl pre.1.1.1).keeps in
     (pre.0, ((pre.1.0.0, omega (arith, own), omega (arith, own, pre.1.0.2)), λ m l. keeps m (omega arith)))
 
-returns : tie.Need-returns
+returns : tie.Need-returns-then-walked-passed
 returns c =
     let start = c.before.before.before in
     let a = start.args in
-    let own = start.requires.1.1.0 c.before.if1.true in
-    c.go-further.ensures ∙ ap (λ n. reached a.self a.bucket n (chain_of Short a.cache.now a.bucket n).after) (sym own)
+    let own = start.requires.1.1.0 c.before.if-walked-passed.true in
+    c.go_further.ensures ∙ ap (λ n. reached a.self a.bucket n (chain_of Short a.cache.now a.bucket n).after) (sym own)
 
-returns-2 : tie.Need-returns-2
+returns-2 : tie.Need-returns-else-walked-passed
 returns-2 c =
     let start = c.before.before.before in
     let a = start.args in
-    let all = le_antisymm c.before.if1.false start.requires.1.0.1 in
+    let all = le_antisymm c.before.if-walked-passed.false start.requires.1.0.1 in
     let next = ap (λ n. (chain_of Short a.cache.now a.bucket n).after) all ∙ start.requires.1.1.1 in
-    c.hand-back.ensures ∙ ap (reached a.self a.bucket a.passed) (sym next)
+    c.hand_back.ensures ∙ ap (reached a.self a.bucket a.passed) (sym next)
 
-pub reach-spec : {M : Type 1} → statement M
-reach-spec =
+pub reach_spec : {M : Type 1} → statement M
+reach_spec =
     tie.close
     (tie.spec
     go-further-requires

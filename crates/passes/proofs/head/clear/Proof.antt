@@ -19,33 +19,33 @@ cleared i = bytes 4 end_value
 wide : (n : ℕ) → length (joined cleared n) ≡ 4 * n
 wide n = joined_length cleared 4 (λ i. bytes-length 4 end_value) n
 
-abbrev invariant-loop : tie.invariant-loop
+abbrev invariant-loop : tie.invariant-loop-i
 invariant-loop out₀ at n place₀ i₀ out place i = (i ≤ n) × (length out ≡ length out₀) × (place ≡ at + 4 * i) × (out ≡ put out₀ at (joined cleared i))
 
-abbrev decreases-loop : tie.decreases-loop
+abbrev decreases-loop : tie.decreases-loop-i
 decreases-loop out₀ at n place₀ i₀ out place i = n - i
 
-loop-holds : tie.Need-loop-init invariant-loop decreases-loop
+loop-holds : tie.Need-loop-i-init invariant-loop decreases-loop
 unfolding joined
 loop-holds c = (omega arith, refl, omega arith, sym (put-nothing _ _))
 
-loop-again : tie.Need-loop-preserved invariant-loop decreases-loop
+loop-again : tie.Need-loop-i-preserved invariant-loop decreases-loop
 loop-again c =
     let stored = c.before.before in
     let l = stored.before.before.before in
     let a = l.before.before.args in
-    let here : a.at + length (joined cleared l.loop.i) ≡ l.loop.place = omega (arith, wide l.loop.i) in (
+    let here : a.at + length (joined cleared l.loop-i.i) ≡ l.loop-i.place = omega (arith, wide l.loop-i.i) in (
       omega arith,
       omega arith,
       omega arith,
-      put_next a.out.now a.at cleared l.loop.i l.loop.place here (omega (arith, bytes-length 4 end_value)) l.loop.invariant.3 stored.put-u32.ensures,
+      put_next a.out.now a.at cleared l.loop-i.i l.loop-i.place here (omega (arith, bytes-length 4 end_value)) l.loop-i.invariant.3 stored.put_u32.ensures,
     )
 
 returns : tie.Need-returns invariant-loop decreases-loop
 returns c =
     let l = c.before in
-    let all : l.loop.i ≡ l.before.before.args.n = omega arith in
-    l.loop.invariant.3 ∙ rw all
+    let all : l.loop-i.i ≡ l.before.before.args.n = omega arith in
+    l.loop-i.invariant.3 ∙ rw all
 
 pub clear_spec : {M : Type 1} → statement M
 clear_spec =

@@ -20,12 +20,12 @@ returns c =
     let version = bytes 2 1 ++ bytes 2 0 in
     let wide : length version ≡ 4 = simp (length-append, bytes-length) in
     let wider : length (version ++ bytes 4 12) ≡ 8 = simp (length-append, bytes-length) in
-    let two = put_then s 0 (bytes 2 1) (bytes 2 0) {q = 2} (omega (arith, bytes-length 2 1)) (omega (arith, bytes-length 2 0, start.requires)) first.put-u16.ensures c.before.before.before.before.before.before.before.before.before.before.put-u162.ensures in
-    let three = put_then s 0 version (bytes 4 12) {q = 4} (omega arith) (omega (arith, bytes-length 4 12, start.requires)) two c.before.before.before.before.before.before.put-u32.ensures in
-    put_then s 0 (version ++ bytes 4 12) (bytes 4 a.directories) {q = 8} (omega arith) (omega (arith, bytes-length 4 a.directories, start.requires)) three c.before.before.put-u322.ensures
+    let two = put_then s 0 (bytes 2 1) (bytes 2 0) {q = 2} (omega (arith, bytes-length 2 1)) (omega (arith, bytes-length 2 0, start.requires)) first.put_u16.ensures c.before.before.before.before.before.before.before.before.before.before.put_u16-2.ensures in
+    let three = put_then s 0 version (bytes 4 12) {q = 4} (omega arith) (omega (arith, bytes-length 4 12, start.requires)) two c.before.before.before.before.before.before.put_u32.ensures in
+    put_then s 0 (version ++ bytes 4 12) (bytes 4 a.directories) {q = 8} (omega arith) (omega (arith, bytes-length 4 a.directories, start.requires)) three c.before.before.put_u32-2.ensures
 
-pub header-spec : {M : Type 1} → statement M
-header-spec =
+pub header_spec : {M : Type 1} → statement M
+header_spec =
     tie.close
     (tie.spec
     (λ c κs. search rules)

@@ -25,12 +25,12 @@ returns c =
     let wide : length head ≡ 12 = simp (length-append, bytes-length) in
     let wider : length (head ++ count) ≡ 16 = simp (length-append, bytes-length) in
     let all : length fields ≡ 4 * a.buckets = joined_length (λ i. bytes 4 end_value) 4 (λ i. bytes-length 4 end_value) a.buckets in
-    let two = put_then s 0 head count {q = 12} (omega arith) (omega (arith, bytes-length 4 a.buckets, start.requires)) first.header.ensures c.before.before.before.before.before.before.put-u32.ensures in
+    let two = put_then s 0 head count {q = 12} (omega arith) (omega (arith, bytes-length 4 a.buckets, start.requires)) first.header.ensures c.before.before.before.before.before.before.put_u32.ensures in
     put_then s 0 (head ++ count) fields {q = 16} (omega arith) (omega (arith, start.requires)) two c.before.before.clear.ensures
     ∙ ap (put s 0) (append_assoc head count fields)
 
-pub tables-spec : {M : Type 1} → statement M
-tables-spec =
+pub tables_spec : {M : Type 1} → statement M
+tables_spec =
     tie.close
     (tie.spec
     (λ c κs. search rules)

@@ -22,10 +22,10 @@ returns c =
     let f : ℕ → List ℕ = λ i. bytes 4 (a.strings + length (paths_up_to (catalogue_in a.catalogue.now) i)) in
     let wide = joined_length f 4 (λ i. bytes-length 4 _) a.n in
     put_then a.out.now a.at (bytes 4 a.n) (joined f a.n) (ap (λ m. a.at + m) (bytes-length 4 a.n)) (omega (arith, wide, start.requires.1.0))
-    counted.put-u32.ensures c.before.before.entries.ensures
+    counted.put_u32.ensures c.before.before.entries.ensures
 
-pub directories-spec : {M : Type 1} → statement M
-directories-spec =
+pub directories_spec : {M : Type 1} → statement M
+directories_spec =
     tie.close
     (tie.spec
     (λ c. omega (arith, few-paths c.before.before.before.requires.0.2))

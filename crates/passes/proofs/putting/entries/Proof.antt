@@ -23,18 +23,18 @@ use Rattle.passes.proofs.putting.entries.Tie as tie
 abbrev entry : List ℕ → ℕ → ℕ → List ℕ
 entry c strings j = bytes 4 (strings + length (paths_up_to (catalogue_in c) j))
 
-abbrev invariant-loop : tie.invariant-loop
+abbrev invariant-loop : tie.invariant-loop-i
 invariant-loop catalogue n strings out₀ at here₀ string₀ place₀ i₀ out here string place i =
     (i ≤ n) × Pass (path_end catalogue) 2 (entry catalogue strings) out₀ at out here place i × (string ≡ strings + length (paths_up_to (catalogue_in catalogue) i))
 
-abbrev decreases-loop : tie.decreases-loop
+abbrev decreases-loop : tie.decreases-loop-i
 decreases-loop catalogue n strings out₀ at here₀ string₀ place₀ i₀ out here string place i = n - i
 
-loop-holds : tie.Need-loop-init invariant-loop decreases-loop
+loop-holds : tie.Need-loop-i-init invariant-loop decreases-loop
 unfolding joined
 loop-holds c = (omega arith, pass-first _ _ _ _ _, omega arith)
 
-abbrev start : tie.At-loop invariant-loop decreases-loop → tie.Start invariant-loop decreases-loop
+abbrev start : tie.At-loop-i invariant-loop decreases-loop → tie.Start invariant-loop decreases-loop
 start l = l.before.before.before
 
 all_room : (s : tie.Start invariant-loop decreases-loop) →
@@ -45,36 +45,36 @@ all_room s =
     omega (arith, joined_length f 4 (λ i. bytes-length 4 _) a.n, s.requires.1.0)
 
 -- the path at hand, room for its entry, and its string's offset
-module _ (c : tie.In-loop invariant-loop decreases-loop) where
-  abbrev l : tie.At-loop invariant-loop decreases-loop
+module _ (c : tie.In-loop-i invariant-loop decreases-loop) where
+  abbrev l : tie.At-loop-i invariant-loop decreases-loop
   l = c.before
 
-  ends : let s = (start l).args.catalogue.now in path_end s l.loop.here ≤ length s
-  ends = path-ends (start l).pre.0.2 c.loop-test.true l.loop.inv.1.here
+  ends : let s = (start l).args.catalogue.now in path_end s l.loop-i.here ≤ length s
+  ends = path-ends (start l).pre.0.2 c.loop-i-test.true l.loop-i.inv.1.here
 
-  size : let s = (start l).args.catalogue.now in path_length s l.loop.here + 1 ≡ length (text_and_zero (nth_path (catalogue_in s) l.loop.i))
-  size = path-size (start l).pre.0.2 c.loop-test.true l.loop.inv.1.here
+  size : let s = (start l).args.catalogue.now in path_length s l.loop-i.here + 1 ≡ length (text_and_zero (nth_path (catalogue_in s) l.loop-i.i))
+  size = path-size (start l).pre.0.2 c.loop-i-test.true l.loop-i.inv.1.here
 
-  room : l.loop.place + 4 ≤ length l.loop.out
+  room : l.loop-i.place + 4 ≤ length l.loop-i.out
   room =
       let a = (start l).args in
-      omega (arith, bytes-length 4 (a.strings + length (paths_up_to (catalogue_in a.catalogue.now) l.loop.i)), pass-room _ _ _ _ _ l.loop.inv.1 c.loop-test.true (all_room (start l)))
+      omega (arith, bytes-length 4 (a.strings + length (paths_up_to (catalogue_in a.catalogue.now) l.loop-i.i)), pass-room _ _ _ _ _ l.loop-i.inv.1 c.loop-i-test.true (all_room (start l)))
 
-  small : l.loop.string + (path_length (start l).args.catalogue.now l.loop.here + 1) < 2 ^ 32
+  small : l.loop-i.string + (path_length (start l).args.catalogue.now l.loop-i.here + 1) < 2 ^ 32
   small =
       let a = (start l).args in
       let d = catalogue_in a.catalogue.now in
-      omega (arith, size, l.loop.inv.2, part-inside (λ j. text_and_zero (nth_path d j)) a.n l.loop.i c.loop-test.true, (start l).pre.1.1)
+      omega (arith, size, l.loop-i.inv.2, part-inside (λ j. text_and_zero (nth_path d j)) a.n l.loop-i.i c.loop-i-test.true, (start l).pre.1.1)
 
   -- and where the next one's begins
   strings-next : let d = catalogue_in (start l).args.catalogue.now in
-      length (paths_up_to d (l.loop.i + 1)) ≡ length (paths_up_to d l.loop.i) + (path_length (start l).args.catalogue.now l.loop.here + 1)
+      length (paths_up_to d (l.loop-i.i + 1)) ≡ length (paths_up_to d l.loop-i.i) + (path_length (start l).args.catalogue.now l.loop-i.here + 1)
   unfolding joined
   strings-next =
       let d = catalogue_in (start l).args.catalogue.now in
-      rw add-one (omega (arith, size, length-append (paths_up_to d l.loop.i) (text_and_zero (nth_path d l.loop.i))))
+      rw add-one (omega (arith, size, length-append (paths_up_to d l.loop-i.i) (text_and_zero (nth_path d l.loop-i.i))))
 
-loop-again : tie.Need-loop-preserved invariant-loop decreases-loop
+loop-again : tie.Need-loop-i-preserved invariant-loop decreases-loop
 loop-again c =
     let put = c.before.before.before.before in
     let turn = put.before.before in
@@ -83,20 +83,20 @@ loop-again c =
     let s = a.catalogue.now in
     let next = strings-next turn in (
       omega arith,
-      pass-next _ _ _ _ _ l.loop.invariant.1 turn.loop-test.true (all_room (start l))
-          (put.put-u32.ensures ∙ ap (λ n. written.put l.loop.out l.loop.place (bytes 4 n)) l.loop.invariant.2)
-          (omega arith) c.path-end.ensures (omega (arith, bytes-length 4 (a.strings + length (paths_up_to (catalogue_in s) l.loop.i)))),
-      omega (arith, c.before.u16-at.ensures, next),
+      pass-next _ _ _ _ _ l.loop-i.invariant.1 turn.loop-i-test.true (all_room (start l))
+          (put.put_u32.ensures ∙ ap (λ n. written.put l.loop-i.out l.loop-i.place (bytes 4 n)) l.loop-i.invariant.2)
+          (omega arith) c.path_end-here.ensures (omega (arith, bytes-length 4 (a.strings + length (paths_up_to (catalogue_in s) l.loop-i.i)))),
+      omega (arith, c.before.u16_at.ensures, next),
     )
 
 returns : tie.Need-returns invariant-loop decreases-loop
 returns c =
     let l = c.before in
-    let all : l.loop.i ≡ (start l).args.n = omega arith in
-    (pass-done _ _ _ _ _ l.loop.invariant.1 all).0
+    let all : l.loop-i.i ≡ (start l).args.n = omega arith in
+    (pass-done _ _ _ _ _ l.loop-i.invariant.1 all).0
 
-pub entries-spec : {M : Type 1} → statement M
-entries-spec =
+pub entries_spec : {M : Type 1} → statement M
+entries_spec =
     tie.close
     (tie.spec
     invariant-loop
@@ -108,7 +108,7 @@ entries-spec =
     (λ c κs. omega (arith, ends c.before.before.before.before))
     (λ c. search rules)
     (λ c. search rules)
-    (λ c. omega (arith, c.u16-at.ensures, small c.before.before.before.before.before))
+    (λ c. omega (arith, c.u16_at.ensures, small c.before.before.before.before.before))
     (λ c κs. ends c.before.before.before.before.before)
     (λ c. omega arith)
     (λ c. omega arith)

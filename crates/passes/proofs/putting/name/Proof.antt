@@ -12,14 +12,14 @@ returns : tie.Need-returns
 returns c =
     let read = c.before.before.before.before in
     let a = read.before.before.before.args in
-    let size = read.byte.ensures.0 in (
-      c.before.before.put-string.ensures
+    let size = read.byte-length.ensures.0 in (
+      c.before.before.put_string.ensures
           ∙ ap (λ n. put a.out.now a.place (text_and_zero (take n (drop (a.icon + 1) a.catalogue.now)))) size,
       ap (λ n. a.place + (n + 1)) size,
     )
 
-pub name-spec : {M : Type 1} → statement M
-name-spec =
+pub name_spec : {M : Type 1} → statement M
+name_spec =
     tie.close
     (tie.spec
     (λ c κs. search rules)

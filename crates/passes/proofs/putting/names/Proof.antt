@@ -12,53 +12,53 @@ use Rattle.passes.specs.Laws.Icons.{icon-ends, name-is, name-size}
 use Rattle.passes.proofs.putting.names.Statement.{statement}
 use Rattle.passes.proofs.putting.names.Tie as tie
 
-abbrev invariant-loop : tie.invariant-loop
+abbrev invariant-loop : tie.invariant-loop-i
 invariant-loop catalogue first icons out₀ at icon₀ place₀ i₀ out icon place i =
-    (i ≤ icons) × Pass (icon_end catalogue) first (λ j. text_and_zero (nth_icon (catalogue_in catalogue) j).name) out₀ at out icon place i
+    (i ≤ icons) × Pass (icon_end catalogue) first (λ j. text_and_zero (nth_icon (catalogue_in catalogue) j).name-place) out₀ at out icon place i
 
-abbrev decreases-loop : tie.decreases-loop
+abbrev decreases-loop : tie.decreases-loop-i
 decreases-loop catalogue first icons out₀ at icon₀ place₀ i₀ out icon place i = icons - i
 
-loop-holds : tie.Need-loop-init invariant-loop decreases-loop
+loop-holds : tie.Need-loop-i-init invariant-loop decreases-loop
 loop-holds c = (omega arith, pass-first _ _ _ _ _)
 
-abbrev start : tie.At-loop invariant-loop decreases-loop → tie.Start invariant-loop decreases-loop
+abbrev start : tie.At-loop-i invariant-loop decreases-loop → tie.Start invariant-loop decreases-loop
 start l = l.before.before.before
 
 -- the icon at hand, and room for its name
-module _ (c : tie.In-loop invariant-loop decreases-loop) where
+module _ (c : tie.In-loop-i invariant-loop decreases-loop) where
   ends : let l = c.before in
-      let s = (start l).args.catalogue.now in icon_end s l.loop.icon ≤ length s
-  ends = icon-ends (start c.before).pre.0.1 c.loop-test.true c.before.loop.invariant.1.here
+      let s = (start l).args.catalogue.now in icon_end s l.loop-i.icon ≤ length s
+  ends = icon-ends (start c.before).pre.0.1 c.loop-i-test.true c.before.loop-i.invariant.1.here
 
   size : let l = c.before in
-      let s = (start l).args.catalogue.now in name_length s l.loop.icon + 1 ≡ length (text_and_zero (nth_icon (catalogue_in s) l.loop.i).name)
-  size = name-size (start c.before).pre.0.1 c.loop-test.true c.before.loop.invariant.1.here
+      let s = (start l).args.catalogue.now in name_length s l.loop-i.icon + 1 ≡ length (text_and_zero (nth_icon (catalogue_in s) l.loop-i.i).name-place)
+  size = name-size (start c.before).pre.0.1 c.loop-i-test.true c.before.loop-i.invariant.1.here
 
   room : let l = c.before in
-      let s = (start l).args.catalogue.now in l.loop.place + length (text_and_zero (nth_icon (catalogue_in s) l.loop.i).name) ≤ length l.loop.out
-  room = pass-room _ _ _ _ _ c.before.loop.invariant.1 c.loop-test.true (start c.before).pre.1
+      let s = (start l).args.catalogue.now in l.loop-i.place + length (text_and_zero (nth_icon (catalogue_in s) l.loop-i.i).name-place) ≤ length l.loop-i.out
+  room = pass-room _ _ _ _ _ c.before.loop-i.invariant.1 c.loop-i-test.true (start c.before).pre.1
 
-name-requires : tie.Need-name-requires invariant-loop decreases-loop
+name-requires : tie.Need-name-place-requires invariant-loop decreases-loop
 name-requires c κs = (ends c.before, omega (arith, size c.before, room c.before))
 
-loop-again : tie.Need-loop-preserved invariant-loop decreases-loop
+loop-again : tie.Need-loop-i-preserved invariant-loop decreases-loop
 loop-again c =
     let put-name = c.before.before.before in
     let turn = put-name.before.before in
     let l = turn.before in
-    let this = put-name.name.ensures.0 ∙ ap (put l.loop.out l.loop.place) (name-is (start l).requires.0.1 turn.loop-test.true l.loop.invariant.1.here) in
-    let more = put-name.name.ensures.1 ∙ ap (λ n. l.loop.place + n) (size turn) in
-    (omega arith, pass-next _ _ _ _ _ l.loop.invariant.1 turn.loop-test.true (start l).requires.1 this (omega arith) c.icon-end.ensures more)
+    let this = put-name.name-place.ensures.0 ∙ ap (put l.loop-i.out l.loop-i.place) (name-is (start l).requires.0.1 turn.loop-i-test.true l.loop-i.invariant.1.here) in
+    let more = put-name.name-place.ensures.1 ∙ ap (λ n. l.loop-i.place + n) (size turn) in
+    (omega arith, pass-next _ _ _ _ _ l.loop-i.invariant.1 turn.loop-i-test.true (start l).requires.1 this (omega arith) c.icon_end-icon.ensures more)
 
 returns : tie.Need-returns invariant-loop decreases-loop
 returns c =
     let l = c.before in
-    let all : l.loop.i ≡ (start l).args.icons = omega arith in
-    (pass-done _ _ _ _ _ l.loop.invariant.1 all).0
+    let all : l.loop-i.i ≡ (start l).args.icons = omega arith in
+    (pass-done _ _ _ _ _ l.loop-i.invariant.1 all).0
 
-pub names-spec : {M : Type 1} → statement M
-names-spec =
+pub names_spec : {M : Type 1} → statement M
+names_spec =
     tie.close
     (tie.spec
     invariant-loop

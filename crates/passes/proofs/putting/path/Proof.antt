@@ -12,14 +12,14 @@ returns : tie.Need-returns
 returns c =
     let read = c.before.before.before.before in
     let a = read.before.before.before.args in
-    let size = read.u16-at.ensures in (
-      c.before.before.put-string.ensures
+    let size = read.u16_at-length.ensures in (
+      c.before.before.put_string.ensures
           ∙ ap (λ n. put a.out.now a.place (text_and_zero (take n (drop (a.path + 2) a.catalogue.now)))) size,
       ap (λ n. a.place + (n + 1)) size,
     )
 
-pub path-spec : {M : Type 1} → statement M
-path-spec =
+pub path_spec : {M : Type 1} → statement M
+path_spec =
     tie.close
     (tie.spec
     (λ c κs. search rules)

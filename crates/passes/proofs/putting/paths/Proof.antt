@@ -12,53 +12,53 @@ use Rattle.passes.specs.Laws.Paths.{path-ends, path-is, path-size}
 use Rattle.passes.proofs.putting.paths.Statement.{statement}
 use Rattle.passes.proofs.putting.paths.Tie as tie
 
-abbrev invariant-loop : tie.invariant-loop
+abbrev invariant-loop : tie.invariant-loop-i
 invariant-loop catalogue n out₀ at here₀ place₀ i₀ out here place i =
     (i ≤ n) × Pass (path_end catalogue) 2 (λ j. text_and_zero (nth_path (catalogue_in catalogue) j)) out₀ at out here place i
 
-abbrev decreases-loop : tie.decreases-loop
+abbrev decreases-loop : tie.decreases-loop-i
 decreases-loop catalogue n out₀ at here₀ place₀ i₀ out here place i = n - i
 
-loop-holds : tie.Need-loop-init invariant-loop decreases-loop
+loop-holds : tie.Need-loop-i-init invariant-loop decreases-loop
 loop-holds c = (omega arith, pass-first _ _ _ _ _)
 
-abbrev start : tie.At-loop invariant-loop decreases-loop → tie.Start invariant-loop decreases-loop
+abbrev start : tie.At-loop-i invariant-loop decreases-loop → tie.Start invariant-loop decreases-loop
 start l = l.before.before.before
 
 -- the path at hand, and room for it
-module _ (c : tie.In-loop invariant-loop decreases-loop) where
+module _ (c : tie.In-loop-i invariant-loop decreases-loop) where
   ends : let l = c.before in
-      let s = (start l).args.catalogue.now in path_end s l.loop.here ≤ length s
-  ends = path-ends (start c.before).pre.0.2 c.loop-test.true c.before.loop.invariant.1.here
+      let s = (start l).args.catalogue.now in path_end s l.loop-i.here ≤ length s
+  ends = path-ends (start c.before).pre.0.2 c.loop-i-test.true c.before.loop-i.invariant.1.here
 
   size : let l = c.before in
-      let s = (start l).args.catalogue.now in path_length s l.loop.here + 1 ≡ length (text_and_zero (nth_path (catalogue_in s) l.loop.i))
-  size = path-size (start c.before).pre.0.2 c.loop-test.true c.before.loop.invariant.1.here
+      let s = (start l).args.catalogue.now in path_length s l.loop-i.here + 1 ≡ length (text_and_zero (nth_path (catalogue_in s) l.loop-i.i))
+  size = path-size (start c.before).pre.0.2 c.loop-i-test.true c.before.loop-i.invariant.1.here
 
   room : let l = c.before in
-      let s = (start l).args.catalogue.now in l.loop.place + length (text_and_zero (nth_path (catalogue_in s) l.loop.i)) ≤ length l.loop.out
-  room = pass-room _ _ _ _ _ c.before.loop.invariant.1 c.loop-test.true (start c.before).pre.1
+      let s = (start l).args.catalogue.now in l.loop-i.place + length (text_and_zero (nth_path (catalogue_in s) l.loop-i.i)) ≤ length l.loop-i.out
+  room = pass-room _ _ _ _ _ c.before.loop-i.invariant.1 c.loop-i-test.true (start c.before).pre.1
 
-path-requires : tie.Need-path-requires invariant-loop decreases-loop
+path-requires : tie.Need-path-place-requires invariant-loop decreases-loop
 path-requires c κs = (ends c.before, omega (arith, size c.before, room c.before))
 
-loop-again : tie.Need-loop-preserved invariant-loop decreases-loop
+loop-again : tie.Need-loop-i-preserved invariant-loop decreases-loop
 loop-again c =
     let put-path = c.before.before.before in
     let turn = put-path.before.before in
     let l = turn.before in
-    let this = put-path.path.ensures.0 ∙ ap (put l.loop.out l.loop.place) (path-is (start l).requires.0.2 turn.loop-test.true l.loop.invariant.1.here) in
-    let more = put-path.path.ensures.1 ∙ ap (λ n. l.loop.place + n) (size turn) in
-    (omega arith, pass-next _ _ _ _ _ l.loop.invariant.1 turn.loop-test.true (start l).requires.1 this (omega arith) c.path-end.ensures more)
+    let this = put-path.path-place.ensures.0 ∙ ap (put l.loop-i.out l.loop-i.place) (path-is (start l).requires.0.2 turn.loop-i-test.true l.loop-i.invariant.1.here) in
+    let more = put-path.path-place.ensures.1 ∙ ap (λ n. l.loop-i.place + n) (size turn) in
+    (omega arith, pass-next _ _ _ _ _ l.loop-i.invariant.1 turn.loop-i-test.true (start l).requires.1 this (omega arith) c.path_end-here.ensures more)
 
 returns : tie.Need-returns invariant-loop decreases-loop
 returns c =
     let l = c.before in
-    let all : l.loop.i ≡ (start l).args.n = omega arith in
-    (pass-done _ _ _ _ _ l.loop.invariant.1 all).0
+    let all : l.loop-i.i ≡ (start l).args.n = omega arith in
+    (pass-done _ _ _ _ _ l.loop-i.invariant.1 all).0
 
-pub paths-spec : {M : Type 1} → statement M
-paths-spec =
+pub paths_spec : {M : Type 1} → statement M
+paths_spec =
     tie.close
     (tie.spec
     invariant-loop

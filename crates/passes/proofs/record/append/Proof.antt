@@ -23,12 +23,12 @@ returns c =
     let s = a.out.now in
     let end = bytes 4 end_value in
     let wide : length (end ++ bytes 4 a.name) ≡ 8 = simp (length-append, bytes-length) in
-    let two = put_then s a.at end (bytes 4 a.name) {q = a.at + 4} (omega (arith, bytes-length 4 end_value)) (omega (arith, bytes-length 4 a.name, start.requires)) chain.put-u32.ensures name.put-u322.ensures in
-    let three = put_then s a.at (end ++ bytes 4 a.name) (bytes 4 a.images) {q = a.at + 8} (omega arith) (omega (arith, bytes-length 4 a.images, start.requires)) two list.put-u323.ensures in
-    field.put-u324.ensures ∙ ap (λ o. put o a.field (bytes 4 a.at)) three
+    let two = put_then s a.at end (bytes 4 a.name) {q = a.at + 4} (omega (arith, bytes-length 4 end_value)) (omega (arith, bytes-length 4 a.name, start.requires)) chain.put_u32.ensures name.put_u32-2.ensures in
+    let three = put_then s a.at (end ++ bytes 4 a.name) (bytes 4 a.images) {q = a.at + 8} (omega arith) (omega (arith, bytes-length 4 a.images, start.requires)) two list.put_u32-3.ensures in
+    field.put_u32-4.ensures ∙ ap (λ o. put o a.field (bytes 4 a.at)) three
 
-pub append-spec : {M : Type 1} → statement M
-append-spec =
+pub append_spec : {M : Type 1} → statement M
+append_spec =
     tie.close
     (tie.spec
     (λ c κs. search rules)

@@ -32,7 +32,7 @@ sizes c =
       short = c.requires.1.1;
     }
 
-lists-end-requires : tie.Need-lists-end-requires
+lists-end-requires : tie.Need-lists_end-directories-requires
 lists-end-requires c κs = let z = sizes c.before in ((c.before.args.parts.paths, c.before.requires.0), omega arith)
 
 returns : tie.Need-returns
@@ -40,7 +40,7 @@ returns c =
     let a = c.before.before.args in
     let d = catalogue_in a.catalogue.now in
     let z = sizes c.before.before in
-    let directories : c.lists-end.result ≡ directories_begin d a.buckets = omega (arith, c.lists-end.ensures) in
+    let directories : c.lists_end-directories.result ≡ directories_begin d a.buckets = omega (arith, c.lists_end-directories.ensures) in
     let strings : a.parts.first_icon - 4 - a.parts.paths ≡ length (paths_up_to d (length d.paths)) = omega arith in
     let paths = z.paths in
     record {
@@ -53,8 +53,8 @@ returns c =
           ∙ ap (λ n. directories_begin d a.buckets + 4 + 4 * length d.paths + n) strings;
     }
 
-pub arrange-spec : {M : Type 1} → statement M
-arrange-spec =
+pub arrange_spec : {M : Type 1} → statement M
+arrange_spec =
     tie.close
     (tie.spec
     (λ c. search rules)
@@ -62,10 +62,10 @@ arrange-spec =
     (λ c. let z = sizes c.before in omega arith)
     (λ c. let z = sizes c.before in omega arith)
     lists-end-requires
-    (λ c. let z = sizes c.before.before in omega (arith, c.lists-end.ensures))
+    (λ c. let z = sizes c.before.before in omega (arith, c.lists_end-directories.ensures))
     (λ c. let z = sizes c.before.before in omega arith)
-    (λ c. let z = sizes c.before.before in omega (arith, c.lists-end.ensures))
+    (λ c. let z = sizes c.before.before in omega (arith, c.lists_end-directories.ensures))
     (λ c. let z = sizes c.before.before in omega arith)
     (λ c. let z = sizes c.before.before in omega arith)
-    (λ c. let z = sizes c.before.before in omega (arith, c.lists-end.ensures))
+    (λ c. let z = sizes c.before.before in omega (arith, c.lists_end-directories.ensures))
     returns)

@@ -10,11 +10,11 @@ use Rattle.passes.proofs.sizes.list_size.Tie as tie
 returns : tie.Need-returns
 returns c =
     let a = c.before.before.before.args in
-    let count = c.u16-at.ensures ∙ ap (λ n. be 2 a.catalogue.now (a.icon + 1 + n)) c.before.byte.ensures.0 in
+    let count = c.u16_at.ensures ∙ ap (λ n. be 2 a.catalogue.now (a.icon + 1 + n)) c.before.byte.ensures.0 in
     (ap (λ m. 4 + 8 * m) count, omega arith)
 
-pub list-size-spec : {M : Type 1} → statement M
-list-size-spec =
+pub list_size_spec : {M : Type 1} → statement M
+list_size_spec =
     tie.close
     (tie.spec
     (λ c. search rules)

@@ -16,8 +16,8 @@ short c = let h = c.requires.0 in catalogue-short c.args.catalogue.now h.are-byt
 returns : tie.Need-returns
 returns c = let s = c.before.before in sym (size_is s.requires.0 s.args.buckets)
 
-pub size-spec : {M : Type 1} → statement M
-size-spec =
+pub size_spec : {M : Type 1} → statement M
+size_spec =
     tie.close
     (tie.spec
     (λ c. search rules)

@@ -9,18 +9,18 @@ use Rattle.salvage_icons.proofs.images.list.Tie as tie
 
 returns : tie.Need-returns
 returns c =
-    let at = c.before.u32-at.ensures in
-    let count = c.u32-at2.ensures ∙ ap (be 4 c.before.before.before.args.cache.now) at in
+    let at = c.before.u32_at-at.ensures in
+    let count = c.u32_at.ensures ∙ ap (be 4 c.before.before.before.args.cache.now) at in
     λ j. record { first = at j + 4; count = count j }
 
-pub list-spec : {M : Type 1} → statement M
-list-spec =
+pub list_spec : {M : Type 1} → statement M
+list_spec =
     tie.close
     (tie.spec
     (λ c. search rules)
     (λ c κs. omega (arith, c.before.requires.inside))
     (λ c. search rules)
     (λ c. search rules)
-    (λ c κs. omega (arith, c.u32-at.ensures, c.before.before.requires.listed))
+    (λ c κs. omega (arith, c.u32_at-at.ensures, c.before.before.requires.listed))
     (λ c. search rules)
     returns)

@@ -7,11 +7,11 @@ use Rattle.filling.specs.Laws.{puts-more}
 use Rattle.salvage_icons.proofs.images.put_image.Statement.{statement}
 use Rattle.salvage_icons.proofs.images.put_image.Tie as tie
 
-short-requires-2 : tie.Need-short-requires-2
+short-requires-2 : tie.Need-short-third-requires
 short-requires-2 c κs =
     let put = c.before.before.before in
     let start = put.before.before.before.before.before.before in
-    omega (arith, put.short.ensures.next, bytes-length 2 start.args.index, start.requires.1)
+    omega (arith, put.short-second.ensures.next, bytes-length 2 start.args.index, start.requires.1)
 
 long-requires : tie.Need-long-requires
 long-requires c κs =
@@ -19,7 +19,7 @@ long-requires c κs =
     let put = second.before.before.before.before in
     let read = put.before.before in
     let start = read.before.before.before.before in
-    omega (arith, second.short2.ensures.next, bytes-length 2 read.before.u16-at.result, put.short.ensures.next, bytes-length 2 start.args.index, start.requires.1)
+    omega (arith, second.short-third.ensures.next, bytes-length 2 read.before.u16_at-flags.result, put.short-second.ensures.next, bytes-length 2 start.args.index, start.requires.1)
 
 returns : tie.Need-returns
 returns c =
@@ -27,10 +27,10 @@ returns c =
     let second = third.before.before.before.before in
     let put = second.before.before.before.before in
     let read = put.before.before in
-    rw (← read.u32-at.ensures, ← read.before.u16-at.ensures) (puts-more (puts-more put.short.ensures second.short2.ensures) third.long.ensures)
+    rw (← read.u32_at-data.ensures, ← read.before.u16_at-flags.ensures) (puts-more (puts-more put.short-second.ensures second.short-third.ensures) third.long.ensures)
 
-pub put-image-spec : {M : Type 1} → statement M
-put-image-spec =
+pub put_image_spec : {M : Type 1} → statement M
+put_image_spec =
     tie.close
     (tie.spec
     (λ c. search rules)

@@ -13,23 +13,23 @@ use Rattle.write_cache.specs.Appending.{leads, bucket_at}
 use Rattle.write_cache.proofs.appending.append.Statement.{statement}
 use Rattle.write_cache.proofs.appending.append.Tie as tie
 
-abbrev start : tie.After-bucket → tie.Start
+abbrev start : tie.After-bucket-k → tie.Start
 start c = c.before.before.before.before
 
 -- the bucket is one of those
-below : (c : tie.After-bucket) → c.bucket.result < (start c).args.buckets
-below c = let a = (start c).args in omega (arith, c.bucket.ensures, mod-lt (hash (name_text a.catalogue.now a.icon)) (start c).requires.0.1)
+below : (c : tie.After-bucket-k) → c.bucket-k.result < (start c).args.buckets
+below c = let a = (start c).args in omega (arith, c.bucket-k.ensures, mod-lt (hash (name_text a.catalogue.now a.icon)) (start c).requires.0.1)
 
 -- the field that leads to the record
-abbrev found : tie.After-lead → tie.After-bucket
+abbrev found : tie.After-lead-field → tie.After-bucket-k
 found c = c.before.before
 
-field_is : (c : tie.After-lead) →
+field_is : (c : tie.After-lead-field) →
     let a = (start (found c)).args in
-    let k = bucket_at a.catalogue.now a.icon a.buckets in c.lead.result ≡ leads (get_or a.last.now k 0) k
+    let k = bucket_at a.catalogue.now a.icon a.buckets in c.lead-field.result ≡ leads (get_or a.last.now k 0) k
 field_is c =
     let a = (start (found c)).args in
-    c.lead.ensures ∙ ap (λ k. leads (get_or a.last.now k 0) k) (found c).bucket.ensures
+    c.lead-field.ensures ∙ ap (λ k. leads (get_or a.last.now k 0) k) (found c).bucket-k.ensures
 
 append-requires : tie.Need-append-requires
 append-requires c κs =
@@ -42,10 +42,10 @@ returns c =
     let stored = c.before.before in
     let led = stored.before.before in
     let a = (start (found led)).args in
-    (stored.append.ensures ∙ ap (appended a.out.now a.at a.name a.images) (field_is led), ap (λ k. set a.last.now k a.at) (found led).bucket.ensures)
+    (stored.append.ensures ∙ ap (appended a.out.now a.at a.name a.images) (field_is led), ap (λ k. set a.last.now k a.at) (found led).bucket-k.ensures)
 
-pub append-spec : {M : Type 1} → statement M
-append-spec =
+pub append_spec : {M : Type 1} → statement M
+append_spec =
     tie.close
     (tie.spec
     (λ c κs. search rules)

@@ -11,29 +11,29 @@ use Rattle.write_cache.specs.Laws.Records.{Reached, reached-first, Room, room, l
 use Rattle.write_cache.proofs.appending.append_all.Statement.{statement}
 use Rattle.write_cache.proofs.appending.append_all.Tie as tie
 
-abbrev invariant-loop : tie.invariant-loop
+abbrev invariant-loop : tie.invariant-loop-i
 invariant-loop catalogue first icons buckets lists names out₀ last₀ icon₀ at₀ list₀ name₀ i₀ out last icon at list name i =
     (i ≤ icons) × (length last ≡ length last₀) × Reached catalogue buckets first out₀ i icon at list name out last
 
-abbrev decreases-loop : tie.decreases-loop
+abbrev decreases-loop : tie.decreases-loop-i
 decreases-loop catalogue first icons buckets lists names out₀ last₀ icon₀ at₀ list₀ name₀ i₀ out last icon at list name i = icons - i
 
-loop-holds : tie.Need-loop-init invariant-loop decreases-loop
+loop-holds : tie.Need-loop-i-init invariant-loop decreases-loop
 loop-holds c = let pre = c.before.before.before.requires in (omega arith, refl, reached-first pre.0.1 pre.1.0 pre.1.1)
 
-abbrev start : tie.At-loop invariant-loop decreases-loop → tie.Start invariant-loop decreases-loop
+abbrev start : tie.At-loop-i invariant-loop decreases-loop → tie.Start invariant-loop decreases-loop
 start l = l.before.before.before.before
 
 -- the icon at hand, and room for what is put for it
-module _ (c : tie.In-loop invariant-loop decreases-loop) where
-  abbrev l : tie.At-loop invariant-loop decreases-loop
+module _ (c : tie.In-loop-i invariant-loop decreases-loop) where
+  abbrev l : tie.At-loop-i invariant-loop decreases-loop
   l = c.before
 
-  ends : let s = (start l).args.catalogue.now in icon_end s l.loop.icon ≤ length s
-  ends = icon-ends (start l).pre.0.1 c.loop-test.true l.loop.inv.2.here
+  ends : let s = (start l).args.catalogue.now in icon_end s l.loop-i.icon ≤ length s
+  ends = icon-ends (start l).pre.0.1 c.loop-i-test.true l.loop-i.inv.2.here
 
-  rooms : Room (start l).pre.0.1 (start l).pre.1.0 l.loop.inv.2 c.loop-test.true
-  rooms = room (start l).pre.0.1 (start l).pre.1.0 l.loop.inv.2 c.loop-test.true
+  rooms : Room (start l).pre.0.1 (start l).pre.1.0 l.loop-i.inv.2 c.loop-i-test.true
+  rooms = room (start l).pre.0.1 (start l).pre.1.0 l.loop-i.inv.2 c.loop-i-test.true
 
 append-requires : tie.Need-append-requires invariant-loop decreases-loop
 append-requires c κs =
@@ -42,14 +42,14 @@ append-requires c κs =
     let judged = (start l).requires.0.1 in
     let ready = (start l).requires.1.0 in
     let r = rooms turn in (
-      (there judged turn.loop-test.true l.loop.invariant.2.here, ready.fits.some, ready.fits.few, omega (arith, l.loop.invariant.2.wide, ready.fits.few)),
+      (there judged turn.loop-i-test.true l.loop-i.invariant.2.here, ready.fits.some, ready.fits.few, omega (arith, l.loop-i.invariant.2.wide, ready.fits.few)),
       (
         (omega (arith, r.record-room, r.out-room), omega (arith, r.record-room, r.short), omega (arith, r.name-room, r.short), omega (arith, r.list-room, r.short)),
-        lead-room judged ready l.loop.invariant.2 turn.loop-test.true,
+        lead-room judged ready l.loop-i.invariant.2 turn.loop-i-test.true,
       ),
     )
 
-loop-again : tie.Need-loop-preserved invariant-loop decreases-loop
+loop-again : tie.Need-loop-i-preserved invariant-loop decreases-loop
 loop-again c =
     let put = c.before.before.before.before.before.before.before in
     let turn = put.before.before.before in
@@ -58,19 +58,19 @@ loop-again c =
     let ready = (start l).requires.1.0 in (
       omega arith,
       omega arith,
-      reached-next judged ready l.loop.invariant.2 turn.loop-test.true put.append.ensures.0 put.append.ensures.1
-          (omega arith) refl (ap (λ n. l.loop.list + n) c.before.before.list-size.ensures.0) (ap (λ n. l.loop.name + (n + 1)) c.before.byte.ensures.0) c.icon-end.ensures,
+      reached-next judged ready l.loop-i.invariant.2 turn.loop-i-test.true put.append.ensures.0 put.append.ensures.1
+          (omega arith) refl (ap (λ n. l.loop-i.list + n) c.before.before.list_size-list.ensures.0) (ap (λ n. l.loop-i.name + (n + 1)) c.before.byte.ensures.0) c.icon_end-icon.ensures,
     )
 
 returns : tie.Need-returns invariant-loop decreases-loop
 returns c =
     let l = c.before in
     let a = (start l).args in
-    let all : l.loop.i ≡ a.icons = omega arith in
-    l.loop.invariant.2.built ∙ rw all
+    let all : l.loop-i.i ≡ a.icons = omega arith in
+    l.loop-i.invariant.2.built ∙ rw all
 
-pub append-all-spec : {M : Type 1} → statement M
-append-all-spec =
+pub append_all_spec : {M : Type 1} → statement M
+append_all_spec =
     tie.close
     (tie.spec
     invariant-loop
@@ -81,7 +81,7 @@ append-all-spec =
     append-requires
     (λ c. let r = rooms c.before.before.before.before.before.before.before in omega (arith, r.record-room, r.short))
     (λ c κs. ends c.before.before.before.before.before.before.before)
-    (λ c. let r = rooms c.before.before.before.before.before.before.before.before in omega (arith, c.list-size.ensures.0, r.list-room, r.short))
+    (λ c. let r = rooms c.before.before.before.before.before.before.before.before in omega (arith, c.list_size-list.ensures.0, r.list-room, r.short))
     (λ c κs. let e = ends c.before.before.before.before.before.before.before.before in omega arith)
     (λ c. search rules)
     (λ c. search rules)

@@ -21,10 +21,10 @@ returns c =
     let size : a.icon + 1 + read.byte.result - (a.icon + 1) ≡ name_length s a.icon = omega (arith, read.byte.ensures.0) in
     let whole = ap (take 255) text.uncut ∙ take_all 255 (name_text s a.icon) text.within in
     ap (λ h. h % a.buckets)
-    (c.before.asked.ensures.1 ∙ ap (λ n. hash (take 255 (string (take n (drop (a.icon + 1) s))))) size ∙ ap hash whole)
+    (c.before.asked-name.ensures.1 ∙ ap (λ n. hash (take 255 (string (take n (drop (a.icon + 1) s))))) size ∙ ap hash whole)
 
-pub bucket-spec : {M : Type 1} → statement M
-bucket-spec =
+pub bucket_spec : {M : Type 1} → statement M
+bucket_spec =
     tie.close
     (tie.spec
     (λ c. search rules)

@@ -1,0 +1,12 @@
+-- `strings::times31` meets its contract. Rests on `shifted-less-itself`, which is the whole
+-- argument.
+use Rattle.std.proofs.Common.{rules}
+use Rattle.strings.proofs.Wrapping.{shifted-less-itself}
+use Rattle.strings.proofs.times31.Statement.{statement}
+use Rattle.strings.proofs.times31.Tie as tie
+
+returns : tie.Need-returns
+returns c = shifted-less-itself c.before.args.h c.wrapping_sub_u32.type-inv c.wrapping_sub_u32.ensures
+
+pub times31_spec : {M : Type 1} → statement M
+times31_spec = tie.close (tie.spec (λ c κs. search rules) returns)
