@@ -7,11 +7,11 @@ use Rattle.bigendian.proofs.byte.Statement.{statement}
 use Rattle.bigendian.proofs.byte.Tie as tie
 
 cast-result : tie.Need-overflow_cast-result
-cast-result c = omega (arith, c.shared_slice_known-1.given c.before.args.at)
+cast-result c = omega (arith, c.shared_slice_known-1.given c.args.at)
 
 returns : tie.Need-returns
 returns c =
-    let a = c.before.args in
+    let a = c.args in
     omega (arith, be-byte a.s.now a.at, c.shared_slice_known-1.given a.at)
 
 pub byte_spec : {M : Type 1} → statement M

@@ -8,9 +8,8 @@ use Rattle.bigendian.proofs.put_u16.Tie as tie
 
 returns : tie.Need-returns
 returns c =
-    let first = c.before.before.before.before.before.before in
-    let a = first.before.before.before.args in
-    put-join 1 1 a.out.now a.at a.n (omega arith) first.put_byte.ensures c.before.before.put_byte-2.ensures
+    let a = c.args in
+    put-join 1 1 a.out.now a.at a.n (omega arith) c.put_byte.ensures c.put_byte-2.ensures
 
 pub put_u16_spec : {M : Type 1} → statement M
 put_u16_spec =

@@ -8,9 +8,8 @@ use Rattle.bigendian.proofs.put_u32.Tie as tie
 
 returns : tie.Need-returns
 returns c =
-    let first = c.before.before.before.before.before.before in
-    let a = first.before.before.before.args in
-    put-join 2 2 a.out.now a.at a.n (omega arith) first.put_u16.ensures c.before.before.put_u16-2.ensures
+    let a = c.args in
+    put-join 2 2 a.out.now a.at a.n (omega arith) c.put_u16.ensures c.put_u16-2.ensures
 
 pub put_u32_spec : {M : Type 1} → statement M
 put_u32_spec =

@@ -7,7 +7,7 @@ use Rattle.bigendian.proofs.u32_at.Statement.{statement}
 use Rattle.bigendian.proofs.u32_at.Tie as tie
 
 returns : tie.Need-returns
-returns c = let a = c.before.before.before.args in omega (arith, be-join 2 2 a.s.now a.at)
+returns c = let a = c.args in omega (arith, be-join 2 2 a.s.now a.at)
 
 pub u32_at_spec : {M : Type 1} → statement M
 u32_at_spec =

@@ -19,24 +19,22 @@ returns c k j = walked-over _ _ _ j.walk j.few c.in-Record.keys2
 
 -- a record comes next
 goes : (c : tie.In-Record) (k : ℕ)
-    → let a = c.before.before.before.before.args in
-    (j : Judged a.cache.now k a.most a.chain) → Goes a.cache.now k j.stop c.before.after-1.given.0.0 a.chain
-goes c k j = walked-goes _ _ _ j.walk c.before.after-1.given.1
+    → let a = c.args in
+    (j : Judged a.cache.now k a.most a.chain) → Goes a.cache.now k j.stop c.after-1.given.0.0 a.chain
+goes c k j = walked-goes _ _ _ j.walk c.after-1.given.1
 
 go-round-requires : tie.Need-go_round-requires
 go-round-requires c κs =
-    let start = c.before.before.before.before in
-    let (k, j) = start.requires.1 in
+    let (k, j) = c.requires.1 in
     let g = goes c k j in
     let stands = stands_on g.keeps g.at g.opened in
-    let steps = turned-inside (j.back _ c.before.after-1.given.1) stands g.opened j.few in
-    ((omega (arith, g.opened, j.few), start.requires.0.0, start.requires.0.1), steps)
+    let steps = turned-inside (j.back _ c.after-1.given.1) stands g.opened j.few in
+    ((omega (arith, g.opened, j.few), c.requires.0.0, c.requires.0.1), steps)
 
 returns-2 : tie.Need-returns
 returns-2 c k j =
-    let told = c.before in
-    let g = goes told k j in
-    let back = j.back _ told.before.after-1.given.1 in
+    let g = goes c.before k j in
+    let back = j.back _ c.after-1.given.1 in
     let stands = stands_on g.keeps g.at g.opened in
     c.go_round.ensures
     ∙ ap (stepped_to _) (turned-last back stands g.opened j.few)

@@ -10,25 +10,21 @@ use Rattle.chains.proofs.follow.Tie as tie
 
 returns-3 : tie.Need-returns-then-fault-ne0
 returns-3 c =
-    let judged = c.before.before in
-    let real = judged.before.before in
-    sym (follow-broken Short _ _ _ real.before.u32_at-named.ensures real.if-named.false judged.before.if-cache-record.false judged.judge-fault.ensures c.if-fault-ne0.true)
+    sym (follow-broken Short _ _ _ c.u32_at-named.ensures c.if-named.false c.if-cache-record.false c.judge-fault.ensures c.if-fault-ne0.true)
 
 returns-4 : tie.Need-returns
 returns-4 c =
-    let judged = c.before.before in
-    let real = judged.before.before in
-    sym (follow-record Short _ _ _ real.before.u32_at-named.ensures real.if-named.false judged.before.if-cache-record.false judged.judge-fault.ensures c.if-fault-ne0.false)
+    sym (follow-record Short _ _ _ c.u32_at-named.ensures c.if-named.false c.if-cache-record.false c.judge-fault.ensures c.if-fault-ne0.false)
 
 pub follow_spec : {M : Type 1} → statement M
 follow_spec =
     tie.close
     (tie.spec
     (λ c κs. search rules)
-    (λ c. sym (follow-end Short _ _ _ c.before.u32_at-named.ensures c.if-named.true))
+    (λ c. sym (follow-end Short _ _ _ c.u32_at-named.ensures c.if-named.true))
     (λ c. search rules)
     (λ c. search rules)
-    (λ c. sym (follow-outside Short _ _ _ c.before.before.u32_at-named.ensures c.before.if-named.false c.if-cache-record.true))
-    (λ c κs. (c.before.before.before.before.requires.0, (c.if-cache-record.false, λ e. absurd (false≢true e))))
+    (λ c. sym (follow-outside Short _ _ _ c.u32_at-named.ensures c.if-named.false c.if-cache-record.true))
+    (λ c κs. (c.requires.0, (c.if-cache-record.false, λ e. absurd (false≢true e))))
     returns-3
     returns-4)

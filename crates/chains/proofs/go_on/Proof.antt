@@ -30,93 +30,81 @@ decreases-loop cache t bucket passed most first opened₀ field₀ stop₀ far�
 
 -- the records passed are stepped from the field of the bucket
 first : (c : tie.After-bucket_field-first invariant-loop decreases-loop)
-    → let a = c.before.before.args in Stands a.cache.now a.bucket c.bucket_field-first.result 0
-first c = let pre = c.before.before.requires in stands-first pre.0 pre.1.0.0 c.bucket_field-first.ensures
+    → let a = c.args in Stands a.cache.now a.bucket c.bucket_field-first.result 0
+first c = let pre = c.requires in stands-first pre.0 pre.1.0.0 c.bucket_field-first.ensures
 
 ahead-requires : tie.Need-ahead-field-requires invariant-loop decreases-loop
-ahead-requires c κs = stepped-inside (first c) (λ m l. c.before.before.requires.1.1 m (omega arith))
+ahead-requires c κs = stepped-inside (first c) (λ m l. c.requires.1.1 m (omega arith))
 
 loop-holds : tie.Need-loop-stop-init invariant-loop decreases-loop
 loop-holds c =
-    let b = c.before in
-    let pre = b.before.before.requires in
+    let pre = c.requires in
     record {
-      stands = stepped-stands (first b) _ pre.1.1 c.ahead-field.ensures;
+      stands = stepped-stands (first c.before) _ pre.1.1 c.ahead-field.ensures;
       last = refl;
       few = pre.1.0.1;
       back = λ l. absurd (omega arith);
     }
 
-abbrev start : tie.At-loop-stop invariant-loop decreases-loop → tie.Start invariant-loop decreases-loop
-start l = l.before.before.before.before
-
-small : (l : tie.At-loop-stop invariant-loop decreases-loop) → length (start l).args.cache.now ≤ 16777216
-small l = omega (arith, valid-header (start l).requires.0)
+small : (l : tie.At-loop-stop invariant-loop decreases-loop) → length l.args.cache.now ≤ 16777216
+small l = omega (arith, valid-header l.requires.0)
 
 -- the chain has come back, or is followed no further
 back : (c : tie.Joined-then-stop-most invariant-loop decreases-loop) →
-    let l = c.before in
-    l.loop-stop.stop < (start l).args.most → Repeat (start l).args.cache.now (start l).args.bucket (suc l.loop-stop.stop)
+    c.loop-stop.stop < c.args.most → Repeat c.args.cache.now c.args.bucket (suc c.loop-stop.stop)
 back c g =
-    let far = ⊎_elim (λ then. absurd (omega (arith, then.taken))) (λ else. ltb-true _ _ else.1.taken) c.if-stop-most.branch in
-    c.before.loop-stop.invariant.back far
+    let far = ⊎_elim (λ then. absurd (omega (arith, then.true))) (λ else. ltb-true _ _ else.1.true) c.if-stop-most.branch in
+    c.loop-stop.invariant.back far
 
 returns : tie.Need-returns-then-stop-most invariant-loop decreases-loop
 returns c =
-    let inv = c.before.loop-stop.invariant in
-    record { stop = c.before.loop-stop.stop; few = inv.few; walk = stands-walked _ inv.stands inv.last; back = λ r q. back c }
+    let inv = c.loop-stop.invariant in
+    record { stop = c.loop-stop.stop; few = inv.few; walk = stands-walked _ inv.stands inv.last; back = λ r q. back c }
 
 -- else it is judged further, but no further than it may be followed
-fewer : (c : tie.Else-stop-far invariant-loop decreases-loop) → let l = c.before.before in l.loop-stop.opened ≤ (start l).args.most
-fewer c = let inv = c.before.before.loop-stop.invariant in omega (arith, inv.last, inv.few, c.before.if-stop-most.false)
+fewer : (c : tie.Else-stop-far invariant-loop decreases-loop) → c.loop-stop.opened ≤ c.args.most
+fewer c = let inv = c.loop-stop.invariant in omega (arith, inv.last, inv.few, c.if-stop-most.false)
 
 horizon-requires : tie.Need-horizon-far-requires invariant-loop decreases-loop
-horizon-requires c κs = (fewer c, omega (arith, (start c.before.before).pre.1.0.2, small c.before.before))
+horizon-requires c κs = (fewer c, omega (arith, c.requires.1.0.2, small c.before.before))
 
 turning-requires : tie.Need-turning-stop-requires invariant-loop decreases-loop
 turning-requires c κs =
-    let l = c.before.before.before in
-    let stands = l.loop-stop.invariant.stands in
-    let way = first l.before.before in (
-      (c.horizon-far.ensures.onward, omega (arith, c.horizon-far.ensures.few, (start l).requires.1.0.2), small l),
+    let stands = c.loop-stop.invariant.stands in
+    let way = first c.before.before.before.before.before in (
+      (c.horizon-far.ensures.onward, omega (arith, c.horizon-far.ensures.few, c.requires.1.0.2), small c.before.before.before),
       (stepped-inside way stands.keeps, stepped-at way stands),
     )
 
 few : (c : tie.After-turning-stop invariant-loop decreases-loop) →
-    let l = c.before.before.before.before in c.turning-stop.result ≤ (start l).args.most
-few c = omega (arith, c.before.horizon-far.ensures.few, c.turning-stop.ensures.within)
+    c.turning-stop.result ≤ c.args.most
+few c = omega (arith, c.horizon-far.ensures.few, c.turning-stop.ensures.within)
 
 pass-requires : tie.Need-pass-chain-requires invariant-loop decreases-loop
 pass-requires c κs =
-    let l = c.before.before.before.before in
-    let pre = (start l).requires in
-    (pre.0, (l.loop-stop.invariant.stands, (c.turning-stop.ensures.onward, omega (arith, few c, pre.1.0.2))))
+    let pre = c.requires in
+    (pre.0, (c.loop-stop.invariant.stands, (c.turning-stop.ensures.onward, omega (arith, few c, pre.1.0.2))))
 
 returns-2 : tie.Need-returns-in_default invariant-loop decreases-loop
 returns-2 c = record {
   stop = _;
   few = few c.before.before;
-  walk = c.before.pass-chain.ensures;
+  walk = c.pass-chain.ensures;
   back = λ r q l. absurd (⊎_elim (λ z. omega arith) (λ z. omega arith) (rw q at c.in-Record.keys2));
 }
 
 loop-less : tie.Need-loop-stop-smaller invariant-loop decreases-loop
 loop-less c =
-    let t = c.before.before.before.before in
-    let l = t.before.before.before.before in
-    omega (arith, l.loop-stop.invariant.last, few t, t.turning-stop.ensures.onward)
+    omega (arith, c.loop-stop.invariant.last, few c.before.before.before.before, c.turning-stop.ensures.onward)
 
 loop-again : tie.Need-loop-stop-preserved invariant-loop decreases-loop
 loop-again c =
-    let p = c.before.before.before in
-    let t = p.before in
-    let l = t.before.before.before.before in
-    let g = walked-goes _ _ _ p.pass-chain.ensures c.before.after-1.given.1 in
+    let g = walked-goes _ _ _ c.pass-chain.ensures c.after-1.given.1 in
     record {
       stands = stands_on g.keeps g.at g.opened;
       last = g.opened;
-      few = few t;
-      back = turning-repeats (first l.before.before) t.turning-stop.ensures;
+      few = few c.before.before.before.before;
+      back = turning-repeats (first c.before.before.before.before.before.before.before.before.before.before) c.turning-stop.ensures;
     }
 
 pub go_on_spec : {M : Type 1} → statement M
@@ -126,7 +114,7 @@ go_on_spec =
     invariant-loop
     decreases-loop
     (λ c κs. search rules)
-    (λ c. omega (arith, c.before.before.requires.1.0, valid-header c.before.before.requires.0))
+    (λ c. omega (arith, c.requires.1.0, valid-header c.requires.0))
     ahead-requires
     loop-holds
     returns

@@ -19,27 +19,23 @@ decreases-loop cache field₀ opened₀ most field opened = most + 1 - opened
 
 loop-holds : tie.Need-loop-opened-init invariant-loop decreases-loop
 unfolding ahead
-loop-holds c = (omega arith, c.before.requires.0.0, rw sub_self)
+loop-holds c = (omega arith, c.requires.0.0, rw sub_self)
 
 u32-at-requires : tie.Need-u32_at-field-requires invariant-loop decreases-loop
 u32-at-requires c κs =
-    let l = c.before in
-    let start = l.before.before in
-    omega (arith, l.loop-opened.invariant.2, start.requires.1 (l.loop-opened.opened - start.args.opened) (omega arith))
+    omega (arith, c.loop-opened.invariant.2, c.requires.1 (c.loop-opened.opened - c.args.opened) (omega arith))
 
 loop-again : tie.Need-loop-opened-preserved invariant-loop decreases-loop
 loop-again c =
-    let l = c.before.before in
-    let first = l.before.before.args.opened in
-    let later : l.loop-opened.opened - first + 1 ≡ l.loop-opened.opened + 1 - first = omega arith in
-    (omega arith, omega arith, rw later at (ahead-next _ _ _ l.loop-opened.invariant.2 c.u32_at-field.ensures))
+    let first = c.args.opened in
+    let later : c.loop-opened.opened - first + 1 ≡ c.loop-opened.opened + 1 - first = omega arith in
+    (omega arith, omega arith, rw later at (ahead-next _ _ _ c.loop-opened.invariant.2 c.u32_at-field.ensures))
 
 returns : tie.Need-returns invariant-loop decreases-loop
 returns c =
-    let l = c.before in
-    let a = l.before.before.args in
-    let all : l.loop-opened.opened ≡ a.most + 1 = omega arith in
-    ap (stepped_to l.loop-opened.opened) l.loop-opened.invariant.2 ∙ rw all
+    let a = c.args in
+    let all : c.loop-opened.opened ≡ a.most + 1 = omega arith in
+    ap (stepped_to c.loop-opened.opened) c.loop-opened.invariant.2 ∙ rw all
 
 pub go_round_spec : {M : Type 1} → statement M
 go_round_spec =

@@ -26,45 +26,36 @@ decreases-loop cache t bucket field₀ opened₀ most field opened = most - open
 
 returns : tie.Need-returns-in_default invariant-loop decreases-loop
 returns c =
-    let step = c.before in
-    let inv = step.before.before.loop-record.invariant in
-    rw step.opens-opened.ensures (walked-is _ _ _ (stands-stops inv.1 inv.0 _ c.in-Record.keys2 (sym step.before.follow-after.ensures)))
+    let inv = c.loop-record.invariant in
+    rw c.opens-opened.ensures (walked-is _ _ _ (stands-stops inv.1 inv.0 _ c.in-Record.keys2 (sym c.follow-after.ensures)))
 
 -- a turn that leads to a record: where it began, what its field leads to, and that it opens one
-abbrev turn : tie.In-Record invariant-loop decreases-loop → tie.At-loop-record invariant-loop decreases-loop
-turn c = c.before.before.before.before.before
-
-abbrev start : tie.In-Record invariant-loop decreases-loop → tie.Start invariant-loop decreases-loop
-start c = (turn c).before.before
-
 module _ (c : tie.In-Record invariant-loop decreases-loop) where
-  led : let a = (start c).args in follow Short a.cache.now a.bucket (turn c).loop-record.field ≡ Record c.before.after-1.given.0.0
-  led = sym c.before.before.before.before.follow-after.ensures ∙ c.before.after-1.given.1
+  led : let a = c.args in follow Short a.cache.now a.bucket c.loop-record.field ≡ Record c.after-1.given.0.0
+  led = sym c.follow-after.ensures ∙ c.after-1.given.1
 
-  one : c.before.before.before.opens-opened.result ≡ 1
-  one = c.before.before.before.opens-opened.ensures ∙ ap opens c.before.after-1.given.1
+  one : c.opens-opened.result ≡ 1
+  one = c.opens-opened.ensures ∙ ap opens c.after-1.given.1
 
-  small : length (start c).args.cache.now ≤ 16777216
-  small = omega (arith, valid-header (start c).requires.0)
+  small : length c.args.cache.now ≤ 16777216
+  small = omega (arith, valid-header c.requires.0)
 
 returns-2 : tie.Need-returns-then-most-opened invariant-loop decreases-loop
 returns-2 c =
-    let told = c.before in
-    let (few, stands) = (turn told).loop-record.invariant in
-    let o = (turn told).loop-record.opened in
-    let most = (start told).args.most in
-    let full : o ≡ most = omega (arith, one told) in
-    let opened : o + told.before.before.before.opens-opened.result ≡ most + 1 = omega (arith, one told) in
-    let keeps = leads_keeps stands (small told) (led told) in
-    ap (λ x. stepped_to x told.before.after-1.given.0.0) opened
-    ∙ ap (stepped_to (most + 1)) (leads-link stands (small told) (led told) ∙ ap (link _ _) full)
+    let (few, stands) = c.loop-record.invariant in
+    let o = c.loop-record.opened in
+    let most = c.args.most in
+    let full : o ≡ most = omega (arith, one c.before) in
+    let opened : o + c.opens-opened.result ≡ most + 1 = omega (arith, one c.before) in
+    let keeps = leads_keeps stands (small c.before) (led c.before) in
+    ap (λ x. stepped_to x c.after-1.given.0.0) opened
+    ∙ ap (stepped_to (most + 1)) (leads-link stands (small c.before) (led c.before) ∙ ap (link _ _) full)
     ∙ walked-is _ _ _ (keeps-chain Short _ _ (λ m l. keeps m (omega arith)))
 
 loop-again : tie.Need-loop-record-preserved invariant-loop decreases-loop
 loop-again c =
-    let told = c.before in
-    let opened = ap (λ n. (turn told).loop-record.opened + n) (one told) in
-    (omega arith, leads-on (turn told).loop-record.invariant.1 (small told) (led told) opened)
+    let opened = ap (λ n. c.loop-record.opened + n) (one c.before) in
+    (omega arith, leads-on c.loop-record.invariant.1 (small c.before) (led c.before) opened)
 
 pub pass_spec : {M : Type 1} → statement M
 pass_spec =
@@ -72,10 +63,10 @@ pass_spec =
     (tie.spec
     invariant-loop
     decreases-loop
-    (λ c. (c.before.requires.1.1.0, c.before.requires.1.0))
-    (λ c κs. (c.before.before.requires.0, c.loop-record.invariant.1.inside))
+    (λ c. (c.requires.1.1.0, c.requires.1.0))
+    (λ c κs. (c.requires.0, c.loop-record.invariant.1.inside))
     (λ c κs. search rules)
-    (λ c. omega (arith, opens_one c.before.follow-after.result, c.opens-opened.ensures))
+    (λ c. omega (arith, opens_one c.follow-after.result, c.opens-opened.ensures))
     (λ c. search rules)
     returns
     returns-2

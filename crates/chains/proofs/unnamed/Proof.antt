@@ -11,5 +11,5 @@ unnamed_spec =
     (λ c. search rules)
     (λ c. search rules)
     (λ c. rw c.enum_told-1.given.1)
-    (λ c. rw c.before.next-1.given.1)
+    (λ c. rw c.next-1.given.1)
     (λ c. rw c.enum_told-in-Record-1.given.1))

@@ -7,9 +7,8 @@ use Rattle.chains.proofs.walk.Tie as tie
 
 pass-requires : tie.Need-pass-requires
 pass-requires c κs =
-    let start = c.before.before in
-    let first = stands-first start.requires.0 start.requires.1.0 c.bucket_field-field.ensures in
-    (start.requires.0, (first, (omega arith, start.requires.1.1)))
+    let first = stands-first c.requires.0 c.requires.1.0 c.bucket_field-field.ensures in
+    (c.requires.0, (first, (omega arith, c.requires.1.1)))
 
 pub walk_spec : {M : Type 1} → statement M
 walk_spec = tie.close (tie.spec (λ c κs. search rules) pass-requires (λ c. search rules))

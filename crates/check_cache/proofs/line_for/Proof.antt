@@ -9,7 +9,7 @@ returns : tie.Need-returns-then-input-gt-LARGEST
 returns c = simp (lt-ltb _ _ c.if-input-gt-LARGEST.true)
 
 returns-2 : tie.Need-returns-else-input-gt-LARGEST
-returns-2 c = simp (le-ltb _ _ c.before.before.if-input-gt-LARGEST.false, c.Line-of.ensures, c.before.check.ensures.0)
+returns-2 c = simp (le-ltb _ _ c.if-input-gt-LARGEST.false, c.Line-of.ensures, c.check.ensures.0)
 
 pub line_for_spec : {M : Type 1} → statement M
 line_for_spec = tie.close (tie.spec (λ c κs. search rules) (λ c κs. search rules) returns returns-2)

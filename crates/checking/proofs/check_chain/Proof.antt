@@ -18,14 +18,13 @@ use Rattle.checking.proofs.check_chain.Tie as tie
 
 check-long-requires : tie.Need-check_long-requires
 check-long-requires c κs =
-    let w = c.before.before in
-    let pre = w.before.before.before.requires in
-    let keeps = (walked-goes _ _ _ w.walk-chain.ensures c.enum_told-1.given.1).keeps in
-    let few = w.before.at_first-stop.ensures in
+    let pre = c.requires in
+    let keeps = (walked-goes _ _ _ c.walk-chain.ensures c.enum_told-1.given.1).keeps in
+    let few = c.at_first-stop.ensures in
     (pre.0, ((pre.1.0, omega (arith, few), omega (arith, few, pre.1.1)), λ m g. keeps m (omega arith)))
 
 abbrev whole : tie.After-walk-chain → Chain
-whole w = let a = w.before.before.before.args in chain_of Short a.cache.now a.bucket a.most
+whole w = let a = w.args in chain_of Short a.cache.now a.bucket a.most
 
 -- what a search says of a chain that is walked to where it ends or breaks
 on-whole : (c : Chain) {a : Walked} {l : Next} (f : ℕ) → a ≡ walked c → a.after ≡ l → unnamed f l a.opened ≡ unnamed_on f c
@@ -33,23 +32,20 @@ on-whole c {a} f e q = ap (λ l. unnamed f l a.opened) (sym q) ∙ ap (λ (a : W
 
 returns-2 : tie.Need-returns-in-Broken
 returns-2 c =
-    let known = c.before.before in
-    let w = known.before.before in
-    let broken = known.after-1.given.1 in
-    c.unfound.ensures ∙ on-whole (whole w) _ (walked-broken _ _ _ w.walk-chain.ensures w.before.at_first-stop.ensures broken) broken
+    let broken = c.after-1.given.1 in
+    c.unfound.ensures ∙ on-whole (whole c.before.before.before.before) _ (walked-broken _ _ _ c.walk-chain.ensures c.at_first-stop.ensures broken) broken
 
 returns-3 : tie.Need-returns-in-End
 returns-3 c =
-    let w = c.before.before.before in
-    let ended = c.before.enum_told-in-End-1.given.1 in
-    c.unfound-in-End.ensures ∙ on-whole (whole w) _ (walked-ended _ _ _ w.walk-chain.ensures w.before.at_first-stop.ensures ended) ended
+    let ended = c.enum_told-in-End-1.given.1 in
+    c.unfound-in-End.ensures ∙ on-whole (whole c.before.before.before) _ (walked-ended _ _ _ c.walk-chain.ensures c.at_first-stop.ensures ended) ended
 
 pub check_chain_spec : {M : Type 1} → statement M
 check_chain_spec =
     tie.close
     (tie.spec
-    (λ c κs. let pre = c.before.requires in omega (arith, pre.1.1, valid-header pre.0))
-    (λ c κs. let pre = c.before.before.requires in (pre.0, (pre.1.0, omega (arith, c.at_first-stop.ensures, pre.1.1))))
+    (λ c κs. let pre = c.requires in omega (arith, pre.1.1, valid-header pre.0))
+    (λ c κs. let pre = c.requires in (pre.0, (pre.1.0, omega (arith, c.at_first-stop.ensures, pre.1.1))))
     (λ c. c.in-Record.keys1)
     check-long-requires
     (λ c. c.in-Record.keys2)

@@ -14,17 +14,14 @@ use Rattle.checking.proofs.check_long.Tie as tie
 
 finish-requires : tie.Need-finish-chain-requires
 finish-requires c κs =
-    let start = c.before.before in
-    ((start.requires.1.0.2, omega (arith, valid-header start.requires.0)), (start.args.bucket, c.go_on-judged.ensures))
+    ((c.requires.1.0.2, omega (arith, valid-header c.requires.0)), (c.args.bucket, c.go_on-judged.ensures))
 
 returns : tie.Need-returns
 returns c =
-    let walk = c.before.before in
-    let start = walk.before.before.before in
-    let field = c.before.bucket_field-field.result in
+    let field = c.bucket_field-field.result in
     c.unnamed.ensures
-    ∙ ap (λ (a : Walked). unnamed field a.after a.opened) (walk.finish-chain.ensures _ walk.before.go_on-judged.ensures)
-    ∙ ap (λ f. unnamed_on f (chain_of Short start.args.cache.now start.args.bucket start.args.most)) (c.before.bucket_field-field.ensures ∙ same-field start.requires.0 _)
+    ∙ ap (λ (a : Walked). unnamed field a.after a.opened) (c.finish-chain.ensures _ c.go_on-judged.ensures)
+    ∙ ap (λ f. unnamed_on f (chain_of Short c.args.cache.now c.args.bucket c.args.most)) (c.bucket_field-field.ensures ∙ same-field c.requires.0 _)
 
 pub check_long_spec : {M : Type 1} → statement M
 check_long_spec =

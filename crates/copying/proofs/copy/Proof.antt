@@ -40,16 +40,14 @@ loop-holds c = (omega arith, refl, sym (put-nothing _ _))
 
 loop-again : tie.Need-loop-i-preserved invariant-loop decreases-loop
 loop-again c =
-    let l = c.before.before in
-    let a = l.before.args in
-    (omega arith, search rules, more a.out.now a.from.now a.at a.start l.loop-i.i (omega arith) (omega arith) l.loop-i.invariant.2)
+    let a = c.args in
+    (omega arith, search rules, more a.out.now a.from.now a.at a.start c.loop-i.i (omega arith) (omega arith) c.loop-i.invariant.2)
 
 returns : tie.Need-returns invariant-loop decreases-loop
 returns c =
-    let l = c.before in
-    let a = l.before.args in
-    let all : l.loop-i.i ≡ a.n = omega arith in
-    l.loop-i.invariant.2 ∙ rw all
+    let a = c.args in
+    let all : c.loop-i.i ≡ a.n = omega arith in
+    c.loop-i.invariant.2 ∙ rw all
 
 pub copy_spec : {M : Type 1} → statement M
 copy_spec =

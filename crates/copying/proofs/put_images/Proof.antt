@@ -13,12 +13,11 @@ use Rattle.copying.proofs.put_images.Tie as tie
 
 returns : tie.Need-returns
 returns c =
-    let start = c.before.before.before.before.before.before.before.before.before.before in
-    let a = start.args in
+    let a = c.args in
     let s = a.from.now in
     let size : length (take (8 * a.m) (drop a.start s)) ≡ 8 * a.m = length-take-le _ _ (omega (arith, length-drop a.start s)) in
     let counted : a.at + length (bytes 4 a.m) ≡ a.at + 4 = ap (λ n. a.at + n) (bytes-length 4 a.m) in
-    put_then a.out.now a.at (bytes 4 a.m) (take (8 * a.m) (drop a.start s)) counted (omega arith) c.before.before.before.before.before.before.put_u32.ensures c.before.before.copy.ensures
+    put_then a.out.now a.at (bytes 4 a.m) (take (8 * a.m) (drop a.start s)) counted (omega arith) c.put_u32.ensures c.copy.ensures
 
 pub put_images_spec : {M : Type 1} → statement M
 put_images_spec =

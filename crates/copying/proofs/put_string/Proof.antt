@@ -14,12 +14,11 @@ use Rattle.copying.proofs.put_string.Tie as tie
 returns : tie.Need-returns
 unfolding bytes
 returns c =
-    let copied = c.before.before.before.before.before.before in
-    let a = copied.before.before.before.before.args in
+    let a = c.args in
     let s = a.from.now in
     let text = take a.n (drop a.start s) in
     let size : length text ≡ a.n = length-take-le _ _ (omega (arith, length-drop a.start s)) in
-    put_then a.out.now a.at text (0 ∷ []) {q = a.at + a.n} (omega arith) (omega arith) copied.copy.ensures c.before.before.put_byte.ensures
+    put_then a.out.now a.at text (0 ∷ []) {q = a.at + a.n} (omega arith) (omega arith) c.copy.ensures c.put_byte.ensures
 
 pub put_string_spec : {M : Type 1} → statement M
 put_string_spec =

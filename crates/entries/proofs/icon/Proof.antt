@@ -18,75 +18,61 @@ use Rattle.entries.proofs.icon.Statement.{statement}
 use Rattle.entries.proofs.icon.Tie as tie
 
 returns : tie.Need-returns-then-not-valid_name_length
-returns c = refuses _ (name-length-refused _ _ _ (sym c.before.before.valid_name_length.ensures ∙ not-true _ c.before.if-not-valid_name_length.true)) c.refused.ensures
+returns c = refuses _ (name-length-refused _ _ _ (sym c.valid_name_length.ensures ∙ not-true _ c.if-not-valid_name_length.true)) c.refused.ensures
 
 -- the length of the name is there and valid
 module _ (c : tie.Else-not-valid_name_length) where
-  sized : let a = c.before.before.before.args in valid_name_length a.catalogue.now a.at ≡ true
-  sized = sym c.before.valid_name_length.ensures ∙ not-false _ c.if-not-valid_name_length.false
+  sized : let a = c.args in valid_name_length a.catalogue.now a.at ≡ true
+  sized = sym c.valid_name_length.ensures ∙ not-false _ c.if-not-valid_name_length.false
 
-  sized_inside : let a = c.before.before.before.args in a.at < length a.catalogue.now
-  sized_inside = let a = c.before.before.before.args in name-length-inside a.n a.catalogue.now a.at sized
+  sized_inside : let a = c.args in a.at < length a.catalogue.now
+  sized_inside = let a = c.args in name-length-inside a.n a.catalogue.now a.at sized
 
 returns-2 : tie.Need-returns-then-not-valid_name_text
 returns-2 c =
-    let judge = c.before.before in
-    refuses _ (name-refused _ _ _ (sized judge.before) (sym judge.valid_name_text.ensures ∙ not-true _ c.before.if-not-valid_name_text.true)) c.refused-then-not-valid_name_text.ensures
+    refuses _ (name-refused _ _ _ (sized c.before.before.before) (sym c.valid_name_text.ensures ∙ not-true _ c.if-not-valid_name_text.true)) c.refused-then-not-valid_name_text.ensures
 
 -- so is the name, and its images are counted behind it
-abbrev start : tie.Else-not-valid_name_text → tie.Start
-start c = c.before.before.before.before.before
-
-named : (c : tie.Else-not-valid_name_text) → let a = (start c).args in valid_name_text a.catalogue.now a.at ≡ true
-named c = sym c.before.valid_name_text.ensures ∙ not-false _ c.if-not-valid_name_text.false
+named : (c : tie.Else-not-valid_name_text) → let a = c.args in valid_name_text a.catalogue.now a.at ≡ true
+named c = sym c.valid_name_text.ensures ∙ not-false _ c.if-not-valid_name_text.false
 
 module _ (c : tie.After-byte) where
-  count_at : let a = (start c.before).args in a.at + 1 + c.byte.result ≡ image_count_at a.catalogue.now a.at
-  count_at = ap (λ n. (start c.before).args.at + 1 + n) c.byte.ensures.0
+  count_at : let a = c.args in a.at + 1 + c.byte.result ≡ image_count_at a.catalogue.now a.at
+  count_at = ap (λ n. c.args.at + 1 + n) c.byte.ensures.0
 
-  named-inside : let a = (start c.before).args in a.at + 1 + c.byte.result ≤ length a.catalogue.now
-  named-inside = let a = (start c.before).args in rw count_at (name-inside a.n a.catalogue.now a.at (sized c.before.before.before) (named c.before))
+  named-inside : let a = c.args in a.at + 1 + c.byte.result ≤ length a.catalogue.now
+  named-inside = let a = c.args in rw count_at (name-inside a.n a.catalogue.now a.at (sized c.before.before.before) (named c.before))
 
 -- the count is judged where it stands
-counted : (c : tie.After-valid_image_count) → let a = (start c.before.before).args in c.valid_image_count.result ≡ valid_image_count a.catalogue.now a.at
+counted : (c : tie.After-valid_image_count) → let a = c.args in c.valid_image_count.result ≡ valid_image_count a.catalogue.now a.at
 counted c =
-    let s = (start c.before.before).args.catalogue.now in
+    let s = c.args.catalogue.now in
     c.valid_image_count.ensures ∙ ap (λ p. inside s p 2 && leb (be 2 s p) 1024) (count_at c.before)
 
 returns-3 : tie.Need-returns-then-not-valid_image_count
 returns-3 c =
-    let judge = c.before.before in
-    let byte = judge.before in
-    let here = byte.before in
-    let wrong = sym (counted judge) ∙ not-true _ c.before.if-not-valid_image_count.true in
-    refuses _ (count-refused _ _ _ (sized here.before.before) (named here) wrong) (c.refused-then-not-valid_image_count.ensures ∙ ap (λ p. judged (fault 18 p) 0) (count_at byte))
+    let wrong = sym (counted c.before.before) ∙ not-true _ c.if-not-valid_image_count.true in
+    refuses _ (count-refused _ _ _ (sized c.before.before.before.before.before.before) (named c.before.before.before.before) wrong) (c.refused-then-not-valid_image_count.ensures ∙ ap (λ p. judged (fault 18 p) 0) (count_at c.before.before.before))
 
 -- and is valid
 module _ (c : tie.Else-not-valid_image_count) where
-  abbrev args : tie.Start
-  args = start c.before.before.before
-
-  few : valid_image_count args.args.catalogue.now args.args.at ≡ true
+  few : valid_image_count c.args.catalogue.now c.args.at ≡ true
   few = sym (counted c.before) ∙ not-false _ c.if-not-valid_image_count.false
 
-  few-inside : args.args.at + 1 + c.before.before.byte.result + 2 ≤ length args.args.catalogue.now
+  few-inside : c.args.at + 1 + c.byte.result + 2 ≤ length c.args.catalogue.now
   few-inside =
-      let a = args.args in
-      let here = c.before.before.before in
-      rw (count_at c.before.before) (count-inside a.n a.catalogue.now a.at (sized here.before.before) (named here) few)
+      let a = c.args in
+      rw (count_at c.before.before) (count-inside a.n a.catalogue.now a.at (sized c.before.before.before.before.before) (named c.before.before.before) few)
 
 returns-4 : tie.Need-returns
 returns-4 c =
-    let e = c.before.before in
-    let a = (args e).args in
+    let a = c.args in
     let s = a.catalogue.now in
-    let byte = e.before.before in
-    let here = byte.before in
-    let m-is = c.before.u16_at-m.ensures ∙ ap (be 2 s) (count_at byte) in
+    let m-is = c.u16_at-m.ensures ∙ ap (be 2 s) (count_at c.before.before.before.before) in
     c.images.ensures
-    ∙ ap (λ m. row_judged (image_field_fault a.n s) image_end m (a.at + 1 + byte.byte.result + 2)) m-is
-    ∙ ap (λ p. row_judged (image_field_fault a.n s) image_end (image_count s a.at) (p + 2)) (count_at byte)
-    ∙ sym (images-decide a.n s a.at (sized here.before.before) (named here) (few e))
+    ∙ ap (λ m. row_judged (image_field_fault a.n s) image_end m (a.at + 1 + c.byte.result + 2)) m-is
+    ∙ ap (λ p. row_judged (image_field_fault a.n s) image_end (image_count s a.at) (p + 2)) (count_at c.before.before.before.before)
+    ∙ sym (images-decide a.n s a.at (sized c.before.before.before.before.before.before.before) (named c.before.before.before.before.before) (few c.before.before))
 
 pub icon_spec : {M : Type 1} → statement M
 icon_spec =

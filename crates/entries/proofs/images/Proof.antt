@@ -25,43 +25,38 @@ abbrev decreases-loop : tie.decreases-loop-left
 decreases-loop catalogue n m at left₀ here₀ left here = left
 
 loop-holds : tie.Need-loop-left-init invariant-loop decreases-loop
-loop-holds c = (c.before.requires, refl)
+loop-holds c = (c.requires, refl)
 
 returns : tie.Need-returns-then-not-valid_image invariant-loop decreases-loop
 returns c =
-    let judge = c.before.before in
-    let l = judge.before.before in
-    let a = l.before.before.args in
-    let wrong = sym judge.valid_image.ensures ∙ not-true _ c.before.if-not-valid_image.true in
-    let told = refuses (image_end l.loop-left.here) (unless-broken _ 18 l.loop-left.here wrong) c.refused.ensures in
-    judged-stops (image_field_fault a.n a.catalogue.now) image_end l.loop-left.left l.loop-left.here (image_end l.loop-left.here) judge.before.loop-left-test.true told
+    let a = c.args in
+    let wrong = sym c.valid_image.ensures ∙ not-true _ c.if-not-valid_image.true in
+    let told = refuses (image_end c.loop-left.here) (unless-broken _ 18 c.loop-left.here wrong) c.refused.ensures in
+    judged-stops (image_field_fault a.n a.catalogue.now) image_end c.loop-left.left c.loop-left.here (image_end c.loop-left.here) c.loop-left-test.true told
     (λ z. omega (arith, ap (λ (a : Judged). a.fault.number) c.refused.ensures))
-    ∙ l.loop-left.invariant.1
+    ∙ c.loop-left.invariant.1
 
 -- an image that is allowed
 module _ (c : tie.Else-not-valid_image invariant-loop decreases-loop) where
-  abbrev turn : tie.At-loop-left invariant-loop decreases-loop
-  turn = c.before.before.before
+  valid : let a = c.args in valid_image_field a.n a.catalogue.now c.loop-left.here ≡ true
+  valid = sym c.valid_image.ensures ∙ not-false _ c.if-not-valid_image.false
 
-  valid : let a = turn.before.before.args in valid_image_field a.n a.catalogue.now turn.loop-left.here ≡ true
-  valid = sym c.before.valid_image.ensures ∙ not-false _ c.if-not-valid_image.false
-
-  there : turn.loop-left.here + 8 ≤ length turn.before.before.args.catalogue.now
+  there : c.loop-left.here + 8 ≤ length c.args.catalogue.now
   there = leb-true _ _ ((and-eq-true_iff _ _).0 valid).0
 
-  told : let a = turn.before.before.args in
-      judged no_fault (turn.loop-left.here + 8) ≡ judged (image_field_fault a.n a.catalogue.now turn.loop-left.here) (image_end turn.loop-left.here)
+  told : let a = c.args in
+      judged no_fault (c.loop-left.here + 8) ≡ judged (image_field_fault a.n a.catalogue.now c.loop-left.here) (image_end c.loop-left.here)
   told = rw valid
 
 loop-again : tie.Need-loop-left-preserved invariant-loop decreases-loop
 loop-again c =
-    let l = (turn c).loop-left in
-    let a = (turn c).before.before.args in
-    let more : l.left ≡ l.left - 1 + 1 = omega (arith, c.before.before.loop-left-test) in
+    let l = c.loop-left in
+    let a = c.args in
+    let more : l.left ≡ l.left - 1 + 1 = omega (arith, c.loop-left-test) in
     (there c, judged-goes-on (image_field_fault a.n a.catalogue.now) image_end l.left l.here (told c) refl (l.left - 1) more ∙ l.inv.1)
 
 returns-2 : tie.Need-returns invariant-loop decreases-loop
-returns-2 c = let l = c.before.before.loop-left in judged-done _ _ _ _ (omega arith) c.kept.ensures ∙ l.invariant.1
+returns-2 c = let l = c.loop-left in judged-done _ _ _ _ (omega arith) c.kept.ensures ∙ l.invariant.1
 
 pub images_spec : {M : Type 1} → statement M
 images_spec =

@@ -13,21 +13,21 @@ use Rattle.entries.proofs.valid_image.Tie as tie
 
 returns : tie.Need-returns-then-catalogue-at-lt8
 returns c =
-    let a = c.before.before.args in
+    let a = c.args in
     let cut : length a.catalogue.now < a.at + 8 = omega arith in
     rw (lt-leb _ _ cut)
 
 -- it is there, and its index is judged
-there : (c : tie.After-valid_index) → let a = c.before.before.before.before.before.args in a.at + 8 ≤ length a.catalogue.now
+there : (c : tie.After-valid_index) → let a = c.args in a.at + 8 ≤ length a.catalogue.now
 there c = omega arith
 
-index : (c : tie.After-valid_index) → let a = c.before.before.before.before.before.args in c.valid_index.result ≡ valid_index a.n (be 2 a.catalogue.now a.at)
-index c = c.valid_index.ensures ∙ ap (valid_index c.before.before.before.before.before.args.n) c.before.before.u16_at-index.ensures
+index : (c : tie.After-valid_index) → let a = c.args in c.valid_index.result ≡ valid_index a.n (be 2 a.catalogue.now a.at)
+index c = c.valid_index.ensures ∙ ap (valid_index c.args.n) c.u16_at-index.ensures
 
 returns-2 : tie.Need-returns-then-valid_index
 returns-2 c =
     let valid = sym (index c.before) ∙ c.if-valid_index.true in
-    rw (le-leb _ _ (there c.before), valid) (ap (λ n. leb n 15) c.before.before.u16_at-flags.ensures)
+    rw (le-leb _ _ (there c.before), valid) (ap (λ n. leb n 15) c.u16_at-flags.ensures)
 
 returns-3 : tie.Need-returns-else-valid_index
 returns-3 c =

@@ -11,13 +11,13 @@ use Rattle.entries.proofs.valid_image_count.Tie as tie
 
 returns : tie.Need-returns-then-catalogue-at-lt2
 returns c =
-    let a = c.before.before.args in
+    let a = c.args in
     let cut : length a.catalogue.now < a.at + 2 = omega arith in
     rw (lt-leb _ _ cut)
 
 returns-2 : tie.Need-returns
 returns-2 c =
-    let a = c.before.before.before.args in
+    let a = c.args in
     let there : a.at + 2 ≤ length a.catalogue.now = omega arith in
     rw (le-leb _ _ there) (ap (λ n. leb n 1024) c.u16_at.ensures)
 

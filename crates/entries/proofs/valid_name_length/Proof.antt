@@ -10,15 +10,14 @@ use Rattle.entries.proofs.valid_name_length.Tie as tie
 
 returns : tie.Need-returns-then-catalogue-at
 returns c =
-    let a = c.before.before.args in
+    let a = c.args in
     let cut : length a.catalogue.now < a.at + 1 = omega (arith, c.if-catalogue-at.true) in
     rw (lt-leb _ _ cut)
 
 returns-2 : tie.Need-returns
 returns-2 c =
-    let start = c.before.before.before in
-    let a = start.args in
-    let there : a.at + 1 ≤ length a.catalogue.now = omega (arith, c.before.if-catalogue-at.false, start.requires) in
+    let a = c.args in
+    let there : a.at + 1 ≤ length a.catalogue.now = omega (arith, c.if-catalogue-at.false, c.requires) in
     rw (le-leb _ _ there) (ap (λ n. ltb 0 n) c.byte.ensures.0)
 
 pub valid_name_length_spec : {M : Type 1} → statement M

@@ -12,17 +12,15 @@ use Rattle.entries.proofs.valid_name_text.Tie as tie
 
 returns : tie.Need-returns-then-catalogue-text
 returns c =
-    let read = c.before in
-    let a = read.before.before.args in
-    let cut : length a.catalogue.now < a.at + 1 + be 1 a.catalogue.now a.at = omega (arith, read.byte-length.ensures.0) in
+    let a = c.args in
+    let cut : length a.catalogue.now < a.at + 1 + be 1 a.catalogue.now a.at = omega (arith, c.byte-length.ensures.0) in
     rw (lt-leb _ _ cut)
 
 returns-2 : tie.Need-returns
 returns-2 c =
-    let read = c.before.before.before in
-    let a = read.before.before.args in
-    let there : a.at + 1 + be 1 a.catalogue.now a.at ≤ length a.catalogue.now = omega (arith, read.byte-length.ensures.0) in
-    let size : a.at + 1 + read.byte-length.result - (a.at + 1) ≡ be 1 a.catalogue.now a.at = omega (arith, read.byte-length.ensures.0) in
+    let a = c.args in
+    let there : a.at + 1 + be 1 a.catalogue.now a.at ≤ length a.catalogue.now = omega (arith, c.byte-length.ensures.0) in
+    let size : a.at + 1 + c.byte-length.result - (a.at + 1) ≡ be 1 a.catalogue.now a.at = omega (arith, c.byte-length.ensures.0) in
     rw (le-leb _ _ there) (c.asked-name.ensures.0 ∙ ap (λ n. allowed (take n (drop (a.at + 1) a.catalogue.now))) size)
 
 pub valid_name_text_spec : {M : Type 1} → statement M

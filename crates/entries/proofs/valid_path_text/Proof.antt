@@ -12,17 +12,15 @@ use Rattle.entries.proofs.valid_path_text.Tie as tie
 
 returns : tie.Need-returns-then-catalogue-text
 returns c =
-    let read = c.before in
-    let a = read.before.before.args in
-    let cut : length a.catalogue.now < a.at + 2 + be 2 a.catalogue.now a.at = omega (arith, read.u16_at-length.ensures) in
+    let a = c.args in
+    let cut : length a.catalogue.now < a.at + 2 + be 2 a.catalogue.now a.at = omega (arith, c.u16_at-length.ensures) in
     rw (lt-leb _ _ cut)
 
 returns-2 : tie.Need-returns
 returns-2 c =
-    let read = c.before.before.before in
-    let a = read.before.before.args in
-    let there : a.at + 2 + be 2 a.catalogue.now a.at ≤ length a.catalogue.now = omega (arith, read.u16_at-length.ensures) in
-    let size : a.at + 2 + read.u16_at-length.result - (a.at + 2) ≡ be 2 a.catalogue.now a.at = omega (arith, read.u16_at-length.ensures) in
+    let a = c.args in
+    let there : a.at + 2 + be 2 a.catalogue.now a.at ≤ length a.catalogue.now = omega (arith, c.u16_at-length.ensures) in
+    let size : a.at + 2 + c.u16_at-length.result - (a.at + 2) ≡ be 2 a.catalogue.now a.at = omega (arith, c.u16_at-length.ensures) in
     rw (le-leb _ _ there) (c.allowed_path.ensures ∙ ap (λ n. allowed_path (take n (drop (a.at + 2) a.catalogue.now))) size)
 
 pub valid_path_text_spec : {M : Type 1} → statement M

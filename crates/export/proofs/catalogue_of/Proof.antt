@@ -15,20 +15,16 @@ use Rattle.export.proofs.catalogue_of.Tie as tie
 
 returns : tie.Need-returns-then-check-ne0
 returns c =
-    let checked = c.before.before.before in
-    let told = check-refuses _ _ checked.check_short-check.ensures.0 c.before.if-check-ne0.true in
+    let told = check-refuses _ _ c.check_short-check.ensures.0 c.if-check-ne0.true in
     (c.refusal.ensures ∙ told.0, told.1)
 
-accepted : (c : tie.Else-check-ne0) → Accepted Short c.before.before.before.before.before.args.cache.now
-accepted c = c.before.before.check_short-check.ensures.1.0.accepted.0 c.if-check-ne0.false
+accepted : (c : tie.Else-check-ne0) → Accepted Short c.args.cache.now
+accepted c = c.check_short-check.ensures.1.0.accepted.0 c.if-check-ne0.false
 
 list-requires : tie.Need-list-requires
 list-requires c κs =
-    let read = c.before.before in
-    let kept = read.before in
-    let checked = kept.before.before in
-    let icons = ap (λ (a : CheckAnswer). a.icons) checked.check_short-check.ensures.0 ∙ sym ((pages checked.before.before.before.args.cache.now).as_many (accepted kept)) in
-    (record { tables = read.read-t.ensures; accepted = accepted kept }, icons, omega (arith, length-replicate {A = ℕ} 65536 0))
+    let icons = ap (λ (a : CheckAnswer). a.icons) c.check_short-check.ensures.0 ∙ sym ((pages c.args.cache.now).as_many (accepted c.before.before.before)) in
+    (record { tables = c.read-t.ensures; accepted = accepted c.before.before.before }, icons, omega (arith, length-replicate {A = ℕ} 65536 0))
 
 pub catalogue_of_spec : {M : Type 1} → statement M
 catalogue_of_spec =
@@ -41,4 +37,4 @@ catalogue_of_spec =
     (λ c. search rules)
     list-requires
     (λ c. search rules)
-    (λ c. c.before.before.before.list.ensures))
+    (λ c. c.list.ensures))

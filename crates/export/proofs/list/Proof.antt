@@ -15,71 +15,53 @@ use Rattle.export.specs.Laws.Call.{sound-checked, name-refuses, many-refused, sh
 use Rattle.export.proofs.list.Statement.{statement}
 use Rattle.export.proofs.list.Tie as tie
 
-abbrev start : tie.After-in_cache-fault → tie.Start
-start c = c.before.before.before.before.before
-
 returns : tie.Need-returns-then-fault-ne0
 returns c =
-    let asked = c.before.before.before.before.before in
-    let told = name-refuses _ _ (sound-checked (start asked).requires.0) asked.in_cache-fault.ensures c.before.if-fault-ne0.true in
+    let told = name-refuses _ _ (sound-checked c.requires.0) c.in_cache-fault.ensures c.if-fault-ne0.true in
     (c.refusal.ensures ∙ told.0, told.1)
 
 -- no name stands twice
-abbrev asked : tie.Else-fault-ne0 → tie.After-in_cache-fault
-asked c = c.before.before.before.before
-
-apart : (c : tie.Else-fault-ne0) → (repeat_fault [] (record_uses (start (asked c)).args.cache.now)).number ≡ 0
-apart c = sym (same_number (asked c).in_cache-fault.ensures) ∙ c.if-fault-ne0.false
+apart : (c : tie.Else-fault-ne0) → (repeat_fault [] (record_uses c.args.cache.now)).number ≡ 0
+apart c = sym (same_number c.in_cache-fault.ensures) ∙ c.if-fault-ne0.false
 
 returns-2 : tie.Need-returns-then-icons-gt65535
 returns-2 c =
-    let once = c.before.before in
-    let begin = start (asked once) in
-    let told = many-refused _ _ (sound-checked begin.pre.0) (apart once) (omega (arith, begin.pre.1)) in
+    let told = many-refused _ _ (sound-checked c.requires.0) (apart c.before.before) (omega (arith, c.requires.1)) in
     (c.refusal-then-icons-gt65535.ensures ∙ told.0, told.1)
 
 -- nor are there too many
 module _ (c : tie.Else-icons-gt65535) where
-  abbrev begin : tie.Start
-  begin = start (asked c.before)
-
-  few : length (all_records Short begin.args.cache.now) ≤ 65535
-  few = omega (arith, begin.pre.1)
+  few : length (all_records Short c.args.cache.now) ≤ 65535
+  few = omega (arith, c.requires.1)
 
 whole-requires : tie.Need-whole-size-requires
 whole-requires c κs =
-    let made = c.before.before.before in
-    let few-enough = made.before.before in
-    indexed (begin few-enough).requires.0 made.records-n.ensures (few few-enough) (omega (arith, (begin few-enough).requires.2))
+    let few-enough = c.before.before in
+    indexed (begin few-enough).requires.0 c.records-n.ensures (few few-enough) (omega (arith, (begin few-enough).requires.2))
 
 returns-3 : tie.Need-returns-then-catalogue-size
 returns-3 c =
-    let sized = c.before.before in
-    let few-enough = sized.before.before.before.before.before.before in
+    let few-enough = c.before.before.before.before.before.before in
     let start = begin few-enough in
-    let told = short-refused _ start.args.catalogue.now (sound-checked start.pre.0) (apart few-enough.before) (few few-enough) (omega (arith, sized.whole-size.ensures)) in
+    let told = short-refused _ start.args.catalogue.now (sound-checked start.pre.0) (apart few-enough.before) (few few-enough) (omega (arith, c.whole-size.ensures)) in
     (c.refusal-then-catalogue-size.ensures ∙ told.0, told.1)
 
 whole-requires-2 : tie.Need-whole-requires
 whole-requires-2 c κs =
-    let sized = c.before.before.before in
-    let made = sized.before.before.before.before in
-    let few-enough = made.before.before in
-    (indexed (begin few-enough).requires.0 made.records-n.ensures (few few-enough) (omega (arith, (begin few-enough).requires.2)), omega (arith, sized.whole-size.ensures))
+    let few-enough = c.before.before in
+    (indexed (begin few-enough).requires.0 c.records-n.ensures (few few-enough) (omega (arith, (begin few-enough).requires.2)), omega (arith, c.whole-size.ensures))
 
 returns-4 : tie.Need-returns
 returns-4 c =
-    let written = c.before.before in
-    let sized = written.before.before.before.before in
-    let few-enough = sized.before.before.before.before.before.before in
+    let few-enough = c.before.before.before.before.before.before in
     let start = begin few-enough in
-    listed-whole _ start.args.catalogue.now (sound-checked start.pre.0) (apart few-enough.before) (few few-enough) (omega (arith, sized.whole-size.ensures)) sized.whole-size.ensures written.whole.ensures
+    listed-whole _ start.args.catalogue.now (sound-checked start.pre.0) (apart few-enough.before) (few few-enough) (omega (arith, c.whole-size.ensures)) c.whole-size.ensures c.whole.ensures
 
 pub list_spec : {M : Type 1} → statement M
 list_spec =
     tie.close
     (tie.spec
-    (λ c κs. let start = c.before.before.before.before in (start.requires.0, omega (arith, start.requires.2)))
+    (λ c κs. (c.requires.0, omega (arith, c.requires.2)))
     (λ c κs. search rules)
     (λ c. search rules)
     returns

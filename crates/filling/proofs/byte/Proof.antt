@@ -8,7 +8,7 @@ use Rattle.filling.proofs.byte.Statement.{statement}
 use Rattle.filling.proofs.byte.Tie as tie
 
 returns : tie.Need-returns-then-at-out
-returns c = puts_whole (bytes-length 1 _) refl (omega arith) c.before.before.put_byte.ensures
+returns c = puts_whole (bytes-length 1 _) refl (omega arith) c.put_byte.ensures
 
 returns-2 : tie.Need-returns
 returns-2 c = puts-short (bytes-length 1 _) refl (omega arith) refl

@@ -17,7 +17,7 @@ unfolding put
 stored s p a b fits = rw add-one (sets-eq (a ∷ b ∷ []) s p fits)
 
 returns : tie.Need-returns-then-at-report
-returns c = puts_whole refl refl (omega arith) (stored c.before.args.report.now c.before.args.at c.before.args.number c.before.args.place (omega arith))
+returns c = puts_whole refl refl (omega arith) (stored c.args.report.now c.args.at c.args.number c.args.place (omega arith))
 
 returns-2 : tie.Need-returns
 returns-2 c = puts-short refl refl (omega arith) refl

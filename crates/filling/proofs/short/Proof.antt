@@ -8,7 +8,7 @@ use Rattle.filling.proofs.short.Statement.{statement}
 use Rattle.filling.proofs.short.Tie as tie
 
 returns : tie.Need-returns-then-at-out
-returns c = puts_whole (bytes-length 2 _) refl (omega arith) c.before.before.put_u16.ensures
+returns c = puts_whole (bytes-length 2 _) refl (omega arith) c.put_u16.ensures
 
 returns-2 : tie.Need-returns
 returns-2 c = puts-short (bytes-length 2 _) refl (omega arith) refl

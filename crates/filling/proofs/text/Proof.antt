@@ -14,7 +14,7 @@ size c =
     length-take-le a.n (drop a.start a.from.now) (omega (arith, length-drop a.start a.from.now, c.requires.0))
 
 returns : tie.Need-returns-then-at-n
-returns c = puts_whole (size c.before.before.before.before.before.before.before) refl (omega arith) c.before.before.copy.ensures
+returns c = puts_whole (size c.before.before.before.before.before.before.before) refl (omega arith) c.copy.ensures
 
 returns-2 : tie.Need-returns
 returns-2 c = puts-short (size c.before.before.before) refl (omega arith) refl

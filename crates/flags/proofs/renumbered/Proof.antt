@@ -8,16 +8,16 @@ use Rattle.flags.proofs.renumbered.Statement.{statement}
 use Rattle.flags.proofs.renumbered.Tie as tie
 
 returns : tie.Need-returns-then-from-to
-returns c = rw c.if-from-to.true (sym (same-numbering _ _ c.before.requires.0))
+returns c = rw c.if-from-to.true (sym (same-numbering _ _ c.requires.0))
 
 returns-2 : tie.Need-returns-then-from-eq0
 returns-2 c =
-    let to : c.before.before.before.args.to ≡ 1 = omega arith in
-    rw (c.before.if-from-eq0.true, to) c.to_gtk.ensures
+    let to : c.args.to ≡ 1 = omega arith in
+    rw (c.if-from-eq0.true, to) c.to_gtk.ensures
 
 returns-3 : tie.Need-returns-else-from-eq0
 returns-3 c =
-    let a = c.before.before.before.args in
+    let a = c.args in
     let from : a.from ≡ 1 = omega arith in
     let to : a.to ≡ 0 = omega arith in
     rw (from, to) c.from_gtk.ensures

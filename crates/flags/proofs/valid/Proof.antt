@@ -10,9 +10,9 @@ use Rattle.flags.specs.Flags.{known}
 use Rattle.flags.proofs.valid.Statement.{statement}
 use Rattle.flags.proofs.valid.Tie as tie
 
-first_two : (c : tie.Joined-flags-le15) → let a = c.before.args in c.if-flags-le15.if2 ≡ (leb a.flags 15 && known a.from)
+first_two : (c : tie.Joined-flags-le15) → let a = c.args in c.if-flags-le15.if2 ≡ (leb a.flags 15 && known a.from)
 first_two c =
-    let x = c.before.args.flags in
+    let x = c.args.flags in
     ⊎_elim (λ w. w.1 ∙ rw (le-leb x 15 (omega arith))) (λ w. w.1 ∙ rw (lt-leb x 15 (omega arith))) c.if-flags-le15.branch
 
 returns : tie.Need-returns-then-from-le1

@@ -12,26 +12,24 @@ use Rattle.icon_cache.proofs.Meets.{meets}
 use Rattle.icon_cache.proofs.check_short.Statement.{statement}
 use Rattle.icon_cache.proofs.check_short.Tie as tie
 
-header-kept : (c : tie.Else-header-ne0) → (header_fault c.before.before.before.before.args.cache.now).number ≡ 0
-header-kept c = rw c.before.before.header-header.ensures at c.if-header-ne0.false
+header-kept : (c : tie.Else-header-ne0) → (header_fault c.args.cache.now).number ≡ 0
+header-kept c = rw c.header-header.ensures at c.if-header-ne0.false
 
 returns : tie.Need-returns-then-header-ne0
 returns c =
-    let hdr = c.before.before.before.header-header in
-    let broken = tables-header _ (rw hdr.ensures at c.before.if-header-ne0.true) ∙ sym hdr.ensures in
-    meets Short _ (c.refused.ensures ∙ sym (check-refuses Short _ broken c.before.if-header-ne0.true))
+    let hdr = c.header-header in
+    let broken = tables-header _ (rw hdr.ensures at c.if-header-ne0.true) ∙ sym hdr.ensures in
+    meets Short _ (c.refused.ensures ∙ sym (check-refuses Short _ broken c.if-header-ne0.true))
 
 returns-2 : tie.Need-returns-then-paths-ne0
 returns-2 c =
-    let judged = c.before.before.before in
-    let broken = tables-paths _ (header-kept judged.before.before) ∙ sym judged.paths-paths.ensures in
-    meets Short _ (c.refused-then-paths-ne0.ensures ∙ sym (check-refuses Short _ broken c.before.if-paths-ne0.true))
+    let broken = tables-paths _ (header-kept c.before.before.before.before.before) ∙ sym c.paths-paths.ensures in
+    meets Short _ (c.refused-then-paths-ne0.ensures ∙ sym (check-refuses Short _ broken c.if-paths-ne0.true))
 
 returns-3 : tie.Need-returns
 returns-3 c =
-    let judged = c.before.before.before in
-    let kept = rw judged.paths-paths.ensures at c.before.if-paths-ne0.false in
-    let tables-kept = same_number (tables-paths _ (header-kept judged.before.before)) ∙ kept in
+    let kept = rw c.paths-paths.ensures at c.if-paths-ne0.false in
+    let tables-kept = same_number (tables-paths _ (header-kept c.before.before.before.before.before)) ∙ kept in
     meets Short _ (c.check_buckets.ensures ∙ sym (check-goes-on Short _ tables-kept))
 
 pub check_short_spec : {M : Type 1} → statement M
@@ -45,5 +43,5 @@ check_short_spec =
     (λ c κs. c.read-t.ensures)
     (λ c κs. search rules)
     returns-2
-    (λ c κs. c.before.before.before.read-t.ensures)
+    (λ c κs. c.read-t.ensures)
     returns-3)

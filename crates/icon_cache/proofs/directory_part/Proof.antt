@@ -9,29 +9,27 @@ use Rattle.tables.specs.Laws.{same-directories}
 use Rattle.icon_cache.proofs.directory_part.Statement.{statement}
 use Rattle.icon_cache.proofs.directory_part.Tie as tie
 
-header-kept : (c : tie.Else-header-ne0) → (header_fault c.before.before.before.before.args.cache.now).number ≡ 0
-header-kept c = rw c.before.before.header-header.ensures at c.if-header-ne0.false
+header-kept : (c : tie.Else-header-ne0) → (header_fault c.args.cache.now).number ≡ 0
+header-kept c = rw c.header-header.ensures at c.if-header-ne0.false
 
 returns : tie.Need-returns-then-header-ne0
 returns c =
-    let hdr = c.before.before.before.header-header in
-    let broken = directory-header _ _ (rw hdr.ensures at c.before.if-header-ne0.true) ∙ sym hdr.ensures in
-    c.no_part.ensures ∙ sym (part-refused _ _ broken c.before.if-header-ne0.true)
+    let hdr = c.header-header in
+    let broken = directory-header _ _ (rw hdr.ensures at c.if-header-ne0.true) ∙ sym hdr.ensures in
+    c.no_part.ensures ∙ sym (part-refused _ _ broken c.if-header-ne0.true)
 
 returns-2 : tie.Need-returns-then-t-index
 returns-2 c =
-    let tabled = c.before.before.before in
-    let beyond = directory-beyond _ _ tabled.read-t.ensures.header (rw (same-directories tabled.read-t.ensures) at c.before.if-t-index.true) in
+    let beyond = directory-beyond _ _ c.read-t.ensures.header (rw (same-directories c.read-t.ensures) at c.if-t-index.true) in
     c.no_part-then-t-index.ensures ∙ sym (part-refused _ _ beyond (λ z. omega arith))
 
 path-requires : tie.Need-path-path-requires
-path-requires c κs = let read = c.before.before.read-t.ensures in (read, rw (same-directories read) at c.if-t-index.false)
+path-requires c κs = let read = c.read-t.ensures in (read, rw (same-directories read) at c.if-t-index.false)
 
 returns-3 : tie.Need-returns
 returns-3 c =
-    let tabled = c.before.before.before.before in
-    let judged = directory-path _ _ tabled.read-t.ensures.header (rw (same-directories tabled.read-t.ensures) at c.before.before.if-t-index.false) in
-    rw c.before.path-path.ensures (sym (part-judged _ _ judged))
+    let judged = directory-path _ _ c.read-t.ensures.header (rw (same-directories c.read-t.ensures) at c.if-t-index.false) in
+    rw c.path-path.ensures (sym (part-judged _ _ judged))
 
 pub directory_part_spec : {M : Type 1} → statement M
 directory_part_spec =

@@ -10,7 +10,7 @@ use Rattle.icon_cache.proofs.directory_path.Statement.{statement}
 use Rattle.icon_cache.proofs.directory_path.Tie as tie
 
 inside : (c : tie.After-directory_part-part)
-    → c.directory_part-part.result.start + c.directory_part-part.result.length ≤ length c.before.before.args.cache.now
+    → c.directory_part-part.result.start + c.directory_part-part.result.length ≤ length c.args.cache.now
 inside c = rw c.directory_part-part.ensures (part-inside _ _)
 
 add-end : tie.Need-overflow_add-end
@@ -21,9 +21,8 @@ part-result-end c = omega (arith, inside c.before)
 
 returns : tie.Need-returns
 returns c =
-    let part = c.before.before in
-    let cut = add-sub_cancel_left part.directory_part-part.result.start part.directory_part-part.result.length in
-    rw (cut, part.directory_part-part.ensures) (part-path _ _)
+    let cut = add-sub_cancel_left c.directory_part-part.result.start c.directory_part-part.result.length in
+    rw (cut, c.directory_part-part.ensures) (part-path _ _)
 
 pub directory_path_spec : {M : Type 1} → statement M
 directory_path_spec =

@@ -30,22 +30,19 @@ meets s name words after e lent = (
 
 returns : tie.Need-returns-then-found-ne0
 returns c =
-    let found = c.before.before in
-    let e = sym (lookup-unfound _ _ _ (sym found.find-found.ensures) c.if-found-ne0.true) in
+    let e = sym (lookup-unfound _ _ _ (sym c.find-found.ensures) c.if-found-ne0.true) in
     meets _ _ _ _ e (sym (answer_keeps _ _ _ c.if-found-ne0.true))
 
 with-images-requires : tie.Need-with_images-requires
 with-images-requires c κs =
-    let found = c.before.before.before.find-found in
-    let keeps = found-keeps _ _ (sym found.ensures) c.before.if-found-ne0.false in
+    let found = c.find-found in
+    let keeps = found-keeps _ _ (sym found.ensures) c.if-found-ne0.false in
     (keeps.inside, keeps-listed keeps)
 
 returns-2 : tie.Need-returns
 returns-2 c =
-    let made = c.before.before in
-    let kept = made.before.before in
-    let e = lookup-found _ _ _ (sym kept.before.before.find-found.ensures) kept.if-found-ne0.false in
-    meets _ _ _ _ (made.with_images.ensures.0 ∙ sym e) made.with_images.ensures.1
+    let e = lookup-found _ _ _ (sym c.find-found.ensures) c.if-found-ne0.false in
+    meets _ _ _ _ (c.with_images.ensures.0 ∙ sym e) c.with_images.ensures.1
 
 pub lookup_spec : {M : Type 1} → statement M
 lookup_spec = tie.close (tie.spec (λ c κs. search rules) returns with-images-requires (λ c. search rules) returns-2)

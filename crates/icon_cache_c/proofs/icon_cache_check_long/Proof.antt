@@ -5,7 +5,7 @@ use Rattle.icon_cache_c.proofs.icon_cache_check_long.Statement.{statement}
 use Rattle.icon_cache_c.proofs.icon_cache_check_long.Tie as tie
 
 returns : tie.Need-returns
-returns c = c.hand_on.ensures ∙ c.before.before.before.before.before.before.check_long-answer.ensures.0
+returns c = c.hand_on.ensures ∙ c.check_long-answer.ensures.0
 
 pub icon_cache_check_long_spec : {M : Type 1} → statement M
 icon_cache_check_long_spec = tie.close (tie.spec (λ c κs. search rules) (λ c κs. search rules) returns)

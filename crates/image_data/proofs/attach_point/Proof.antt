@@ -24,14 +24,14 @@ meets : (s : List ℕ) (d i : ℕ) {r : PointAnswer} → r ≡ attach_point s d 
 meets s d i e = (e, λ accepted image. rw e ((promise s d).point i accepted image))
 
 way : (c : tie.After-entry_part-way)
-    → let a = c.before.before.args in
+    → let a = c.args in
     LeadsTo (point_fault a.cache.now a.«data» a.entry) (entry_at (points_at a.cache.now a.«data») point_size a.entry) c.entry_part-way.result
 unfolding point_fault
 way c = c.entry_part-way.ensures
 
-inside : (c : tie.Else-way-ne0) → let before = c.before.before in before.entry_part-way.result.at + 4 ≤ length before.before.before.args.cache.now
+inside : (c : tie.Else-way-ne0) → c.entry_part-way.result.at + 4 ≤ length c.args.cache.now
 inside c =
-    let gone = c.before.before.entry_part-way.ensures in
+    let gone = c.entry_part-way.ensures in
     rw (gone.leads c.if-way-ne0.false) (entry-inside _ _ _ _ (or_else-none _ _ (way-kept gone c.if-way-ne0.false)).1)
 
 returns : tie.Need-returns-then-way-ne0
@@ -39,10 +39,8 @@ returns c = meets _ _ _ (point-refused _ _ _ (way c.before.before) c.if-way-ne0.
 
 returns-2 : tie.Need-returns
 returns-2 c =
-    let first = c.before in
-    let found = first.before in
-    let point = point-found _ _ _ (way found.before.before) found.if-way-ne0.false in
-    meets _ _ _ (rw (first.u16_at.ensures, c.u16_at-2.ensures) point)
+    let point = point-found _ _ _ (way c.before.before.before.before) c.if-way-ne0.false in
+    meets _ _ _ (rw (c.u16_at.ensures, c.u16_at-2.ensures) point)
 
 pub attach_point_spec : {M : Type 1} → statement M
 attach_point_spec =

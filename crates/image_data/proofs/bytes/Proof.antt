@@ -12,4 +12,4 @@ bytes_spec =
     (λ c. search rules)
     (λ c. search rules)
     (λ c. search rules)
-    (λ c. let a = c.before.before.args in rw (add-sub_cancel_left a.part.start a.part.length)))
+    (λ c. let a = c.args in rw (add-sub_cancel_left a.part.start a.part.length)))

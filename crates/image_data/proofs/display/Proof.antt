@@ -12,19 +12,18 @@ use Rattle.image_data.specs.Laws.Called.{display-refused, display-judged}
 use Rattle.image_data.proofs.display.Statement.{statement}
 use Rattle.image_data.proofs.display.Tie as tie
 
-inside : (c : tie.Else-way-ne0) → let way = c.before.before in way.entry_part-way.result.at + 8 ≤ length way.before.before.args.cache.now
+inside : (c : tie.Else-way-ne0) → c.entry_part-way.result.at + 8 ≤ length c.args.cache.now
 inside c =
-    let way = c.before.before.entry_part-way.ensures in
-    rw (way.leads c.if-way-ne0.false) (entry-inside _ _ _ _ (or_else-none _ _ (way-kept way c.if-way-ne0.false)).1)
+    let c = c.entry_part-way.ensures in
+    rw (c.leads c.if-way-ne0.false) (entry-inside _ _ _ _ (or_else-none _ _ (way-kept c c.if-way-ne0.false)).1)
 
 returns : tie.Need-returns-then-way-ne0
-returns c = c.no_string.ensures ∙ display-refused _ _ _ _ c.before.before.before.entry_part-way.ensures c.before.if-way-ne0.true
+returns c = c.no_string.ensures ∙ display-refused _ _ _ _ c.entry_part-way.ensures c.if-way-ne0.true
 
 returns-2 : tie.Need-returns
 returns-2 c =
-    let found = c.before.before in
-    let way = found.before.before.entry_part-way.ensures in
-    rw (way.leads found.if-way-ne0.false) at c.string.ensures ∙ display-judged _ _ _ _ way found.if-way-ne0.false
+    let way = c.entry_part-way.ensures in
+    rw (way.leads c.if-way-ne0.false) at c.string.ensures ∙ display-judged _ _ _ _ way c.if-way-ne0.false
 
 pub display_spec : {M : Type 1} → statement M
 display_spec =

@@ -11,4 +11,4 @@ display_language_bytes_spec =
     (tie.spec
     (λ c κs. search rules)
     (λ c κs. search rules)
-    (λ c. c.bytes.ensures ∙ rw c.before.display_language-part.ensures.0 (string_bytes_lem _ _ _ _)))
+    (λ c. c.bytes.ensures ∙ rw c.display_language-part.ensures.0 (string_bytes_lem _ _ _ _)))

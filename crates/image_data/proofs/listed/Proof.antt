@@ -20,50 +20,47 @@ use Rattle.image_data.proofs.listed.Statement.{statement}
 use Rattle.image_data.proofs.listed.Tie as tie
 
 -- where the field leads
-leads : (c : tie.After-u32_at-list) → let a = c.before.before.args in c.u32_at-list.result ≡ be 4 a.cache.now a.field
+leads : (c : tie.After-u32_at-list) → let a = c.args in c.u32_at-list.result ≡ be 4 a.cache.now a.field
 leads c = c.u32_at-list.ensures
 
-real : (c : tie.Else-list-eq0) → let a = c.before.before.before.args in be 4 a.cache.now a.field ≡ 0 → ⊥
+real : (c : tie.Else-list-eq0) → let a = c.args in be 4 a.cache.now a.field ≡ 0 → ⊥
 real c z = c.if-list-eq0.false (leads c.before ∙ z)
 
 -- the list keeps rule 22
-valid : (c : tie.Else-not-valid_entries) → let a = c.before.before.before.before.before.args in valid_entries a.cache.now (be 4 a.cache.now a.field) a.size ≡ true
-valid c = rw (leads c.before.before.before) at (sym c.before.valid_entries.ensures ∙ not-false _ c.if-not-valid_entries.false)
+valid : (c : tie.Else-not-valid_entries) → let a = c.args in valid_entries a.cache.now (be 4 a.cache.now a.field) a.size ≡ true
+valid c = rw (leads c.before.before.before) at (sym c.valid_entries.ensures ∙ not-false _ c.if-not-valid_entries.false)
 
 -- its count, and the entry if it is below
 count : (c : tie.After-u32_at)
-    → let a = c.before.before.before.before.before.before.args in c.u32_at.result ≡ be 4 a.cache.now (be 4 a.cache.now a.field)
+    → let a = c.args in c.u32_at.result ≡ be 4 a.cache.now (be 4 a.cache.now a.field)
 count c = rw (leads c.before.before.before.before) at c.u32_at.ensures
 
 found : (c : tie.Else-u32_at-entry)
-    → let a = c.before.before.before.before.before.before.before.args in entry_fault a.cache.now a.field a.size a.entry ≡ no_fault
+    → let a = c.args in entry_fault a.cache.now a.field a.size a.entry ≡ no_fault
 found c =
-    let list = c.before.before in
-    entry_found _ _ _ _ (real list.before.before) (valid list) (rw (count c.before) at c.if-u32_at-entry.false)
+    entry_found _ _ _ _ (real c.before.before.before.before) (valid c.before.before) (rw (count c.before) at c.if-u32_at-entry.false)
 
 inside : (c : tie.Else-u32_at-entry)
-    → let a = c.before.before.before.before.before.before.before.args in
-    entry_at c.before.before.before.before.before.u32_at-list.result a.size a.entry + a.size ≤ length a.cache.now
+    → let a = c.args in
+    entry_at c.u32_at-list.result a.size a.entry + a.size ≤ length a.cache.now
 inside c = rw (leads c.before.before.before.before.before) (entry-inside _ _ _ _ (same_number (found c)))
 
 returns : tie.Need-returns-then-list-eq0
-returns c = same_way (entry_absent _ _ _ _ (sym (leads c.before.before) ∙ c.before.if-list-eq0.true)) (c.stopped.ensures _)
+returns c = same_way (entry_absent _ _ _ _ (sym (leads c.before.before) ∙ c.if-list-eq0.true)) (c.stopped.ensures _)
 
 returns-2 : tie.Need-returns-then-not-valid_entries
 returns-2 c =
-    let judged = c.before.before in
-    let broken = rw (leads judged.before.before) at (sym judged.valid_entries.ensures ∙ not-true _ c.before.if-not-valid_entries.true) in
-    same_way (entry-broken _ _ _ _ (real judged.before) broken) (c.stopped-then-not-valid_entries.ensures _)
+    let broken = rw (leads c.before.before.before.before) at (sym c.valid_entries.ensures ∙ not-true _ c.if-not-valid_entries.true) in
+    same_way (entry-broken _ _ _ _ (real c.before.before.before) broken) (c.stopped-then-not-valid_entries.ensures _)
 
 u32-at-requires-2 : tie.Need-u32_at-requires
 u32-at-requires-2 c κs =
-    let a = c.before.before.before.before.before.args in
+    let a = c.args in
     omega (arith, list-ends a.cache.now _ a.size ((and-eq-true_iff _ _).0 (valid c)).0, leads c.before.before.before)
 
 returns-3 : tie.Need-returns-then-u32_at-entry
 returns-3 c =
-    let read = c.before.before in
-    let beyond = entry-beyond _ _ _ _ (real read.before.before.before) (valid read.before) (rw (count read) at c.before.if-u32_at-entry.true) in
+    let beyond = entry-beyond _ _ _ _ (real c.before.before.before.before.before) (valid c.before.before.before) (rw (count c.before.before) at c.if-u32_at-entry.true) in
     same_way beyond (c.stopped-then-u32_at-entry.ensures _)
 
 returns-4 : tie.Need-returns

@@ -12,12 +12,12 @@ use Rattle.image_data.specs.Laws.Judged.{too_short, too_large, bytes-kept, part-
 use Rattle.image_data.proofs.meta_data.Statement.{statement}
 use Rattle.image_data.proofs.meta_data.Tie as tie
 
-kept : (c : tie.Else-cache-gt16777216) → bytes_fault c.before.before.before.args.cache.now ≡ no_fault
-kept c = bytes-kept _ (omega (arith, c.before.if-cache-lt12.false)) (omega (arith, c.if-cache-gt16777216.false))
+kept : (c : tie.Else-cache-gt16777216) → bytes_fault c.args.cache.now ≡ no_fault
+kept c = bytes-kept _ (omega (arith, c.if-cache-lt12.false)) (omega (arith, c.if-cache-gt16777216.false))
 
 -- the image data lies inside
-inside : (c : tie.Else-way-ne0) → let a = c.before.before.before.before.before.before.args in a.«data» + 8 ≤ length a.cache.now
-inside c = let way = c.before.before.part-way.ensures in part-inside _ _ _ _ (way-kept way c.if-way-ne0.false)
+inside : (c : tie.Else-way-ne0) → let a = c.args in a.«data» + 8 ≤ length a.cache.now
+inside c = let way = c.part-way.ensures in part-inside _ _ _ _ (way-kept way c.if-way-ne0.false)
 
 returns : tie.Need-returns-then-cache-lt12
 returns c = same_way (meta-bytes _ _ (too_short _ (omega arith))) (c.stopped.ensures _)
@@ -27,15 +27,12 @@ returns-2 c = same_way (meta-bytes _ _ (too_large _ (omega arith))) (c.stopped-t
 
 returns-3 : tie.Need-returns-then-way-ne0
 returns-3 c =
-    let judged = c.before.before in
-    same_way (meta-next _ _ (kept judged.before)) (way-ends judged.part-way.ensures _ _ c.if-way-ne0.true)
+    same_way (meta-next _ _ (kept c.before.before.before)) (way-ends c.part-way.ensures _ _ c.if-way-ne0.true)
 
 returns-4 : tie.Need-returns
 returns-4 c =
-    let read = c.before in
-    let judged = read.before.before.before in
-    let way = rw read.u32_at.ensures at c.part.ensures in
-    same_way (meta-next _ _ (kept judged.before)) (way_on _ (way-kept judged.part-way.ensures read.before.if-way-ne0.false) way)
+    let way = rw c.u32_at.ensures at c.part.ensures in
+    same_way (meta-next _ _ (kept c.before.before.before.before.before)) (way_on _ (way-kept c.part-way.ensures c.if-way-ne0.false) way)
 
 pub meta_data_spec : {M : Type 1} → statement M
 meta_data_spec =

@@ -9,13 +9,13 @@ use Rattle.image_data.proofs.part.Statement.{statement}
 use Rattle.image_data.proofs.part.Tie as tie
 
 returns : tie.Need-returns-then-at-eq0
-returns c = same_way (part-absent _ _ _ _ c.before.if-at-eq0.true) (c.stopped.ensures _)
+returns c = same_way (part-absent _ _ _ _ c.if-at-eq0.true) (c.stopped.ensures _)
 
 returns-2 : tie.Need-returns-then-cache-size
-returns-2 c = same_way (part-outside _ _ _ _ c.before.before.if-at-eq0.false (omega arith)) (c.stopped-then-cache-size.ensures _)
+returns-2 c = same_way (part-outside _ _ _ _ c.if-at-eq0.false (omega arith)) (c.stopped-then-cache-size.ensures _)
 
 returns-3 : tie.Need-returns
-returns-3 c = same_way (part-found _ _ _ _ c.before.if-at-eq0.false (omega arith)) (record { judged = refl; leads = λ z. refl })
+returns-3 c = same_way (part-found _ _ _ _ c.if-at-eq0.false (omega arith)) (record { judged = refl; leads = λ z. refl })
 
 pub part_spec : {M : Type 1} → statement M
 part_spec =

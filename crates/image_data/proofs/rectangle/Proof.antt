@@ -22,23 +22,19 @@ meets : (s : List ℕ) (d : ℕ) {r : RectangleAnswer} → r ≡ rectangle s d �
 meets s d e = (e, λ accepted image. rw e ((promise s d).rectangle accepted image))
 
 inside : (c : tie.Else-way-ne0)
-    → let way = c.before.before in way.rectangle_part-way.result.at + 8 ≤ length way.before.before.args.cache.now
+    → c.rectangle_part-way.result.at + 8 ≤ length c.args.cache.now
 unfolding rectangle_call_fault
 inside c =
-    let way = c.before.before.rectangle_part-way.ensures in
-    rw (way.leads c.if-way-ne0.false) (part-inside _ _ _ _ (or_else-none _ _ (way-kept way c.if-way-ne0.false)).1)
+    let c = c.rectangle_part-way.ensures in
+    rw (c.leads c.if-way-ne0.false) (part-inside _ _ _ _ (or_else-none _ _ (way-kept c c.if-way-ne0.false)).1)
 
 returns : tie.Need-returns-then-way-ne0
-returns c = meets _ _ (rectangle-refused _ _ c.before.before.rectangle_part-way.ensures c.if-way-ne0.true)
+returns c = meets _ _ (rectangle-refused _ _ c.rectangle_part-way.ensures c.if-way-ne0.true)
 
 returns-2 : tie.Need-returns
 returns-2 c =
-    let third = c.before in
-    let second = third.before in
-    let first = second.before in
-    let found = first.before in
-    let corners = rectangle-found _ _ found.before.before.rectangle_part-way.ensures found.if-way-ne0.false in
-    meets _ _ (rw (first.u16_at.ensures, second.u16_at-2.ensures, third.u16_at-3.ensures, c.u16_at-4.ensures) corners)
+    let corners = rectangle-found _ _ c.rectangle_part-way.ensures c.if-way-ne0.false in
+    meets _ _ (rw (c.u16_at.ensures, c.u16_at-2.ensures, c.u16_at-3.ensures, c.u16_at-4.ensures) corners)
 
 pub rectangle_spec : {M : Type 1} → statement M
 rectangle_spec =

@@ -10,20 +10,19 @@ use Rattle.image_data.proofs.rectangle_part.Statement.{statement}
 use Rattle.image_data.proofs.rectangle_part.Tie as tie
 
 -- the meta data lies inside
-inside : (c : tie.Else-way-ne0) → let way = c.before.before in way.meta_data-way.result.at + 12 ≤ length way.before.before.args.cache.now
-inside c = meta-found _ _ c.before.before.meta_data-way.ensures c.if-way-ne0.false
+inside : (c : tie.Else-way-ne0) → c.meta_data-way.result.at + 12 ≤ length c.args.cache.now
+inside c = meta-found _ _ c.meta_data-way.ensures c.if-way-ne0.false
 
 returns : tie.Need-returns-then-way-ne0
 unfolding rectangle_call_fault
-returns c = way-ends c.before.before.meta_data-way.ensures _ _ c.if-way-ne0.true
+returns c = way-ends c.meta_data-way.ensures _ _ c.if-way-ne0.true
 
 returns-2 : tie.Need-returns
 unfolding rectangle_call_fault
 returns-2 c =
-    let found = c.before.before in
-    let meta = found.before.before.meta_data-way.ensures in
-    let way = rw (c.before.u32_at.ensures, meta.leads found.if-way-ne0.false) at c.part.ensures in
-    way_on _ (way-kept meta found.if-way-ne0.false) way
+    let meta = c.meta_data-way.ensures in
+    let way = rw (c.u32_at.ensures, meta.leads c.if-way-ne0.false) at c.part.ensures in
+    way_on _ (way-kept meta c.if-way-ne0.false) way
 
 pub rectangle_part_spec : {M : Type 1} → statement M
 rectangle_part_spec =

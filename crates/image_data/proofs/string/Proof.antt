@@ -13,15 +13,14 @@ use Rattle.image_data.proofs.string.Tie as tie
 returns : tie.Need-returns-in_default
 unfolding note_fault
 returns c =
-    let read = c.before.before.extent_at.ensures in
-    let broken = unless-broken _ 24 _ (ap is_whole (sym read) ∙ tag-not-whole _ c.before.in-Whole.keys2) in
+    let read = c.extent_at.ensures in
+    let broken = unless-broken _ 24 _ (ap is_whole (sym read) ∙ tag-not-whole _ c.in-Whole.keys2) in
     c.no_string.ensures ∙ ap (string_judged _ _) (sym broken)
 
 returns-2 : tie.Need-returns
 unfolding note_fault
 returns-2 c =
-    let told = c.before.before in
-    let whole = sym told.before.before.extent_at.ensures ∙ told.length-1.given.1 in
+    let whole = sym c.extent_at.ensures ∙ c.length-1.given.1 in
     let kept = unless-kept _ 24 _ (whole-is-whole 255 _ _ whole) in
     rw (c.u32_at.ensures, whole_length 255 _ _ whole) (ap (string_judged _ _) (sym kept))
 

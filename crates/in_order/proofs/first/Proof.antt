@@ -10,16 +10,13 @@ use Rattle.in_order.proofs.first.Tie as tie
 
 u32-at-requires : tie.Need-u32_at-requires
 u32-at-requires c κs =
-    let s = c.before.before in
-    let told = c.bucket_field.ensures ∙ same-field s.requires.tables 0 in
-    omega (arith, told, field-inside s.requires.tables 0 (valid-header s.requires.tables).buckets-some)
+    let told = c.bucket_field.ensures ∙ same-field c.requires.tables 0 in
+    omega (arith, told, field-inside c.requires.tables 0 (valid-header c.requires.tables).buckets-some)
 
 settle-requires : tie.Need-settle-requires
 settle-requires c κs =
-    let field = c.before in
-    let s = field.before.before in
-    let told = field.bucket_field.ensures ∙ same-field s.requires.tables 0 in
-    (s.requires, before-first s.requires.accepted (valid-header s.requires.tables).buckets-some (c.u32_at.ensures ∙ ap (be 4 s.args.cache.now) told))
+    let told = c.bucket_field.ensures ∙ same-field c.requires.tables 0 in
+    (c.requires, before-first c.requires.accepted (valid-header c.requires.tables).buckets-some (c.u32_at.ensures ∙ ap (be 4 c.args.cache.now) told))
 
 pub first_spec : {M : Type 1} → statement M
 first_spec = tie.close (tie.spec (λ c κs. search rules) u32-at-requires settle-requires (λ c. search rules))

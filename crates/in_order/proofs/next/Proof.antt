@@ -13,16 +13,14 @@ here c = c.requires.1.here c.requires.2
 
 add-settle : tie.Need-overflow_add-cursor
 add-settle c =
-    let s = c.before.before.before in
-    omega (arith, here-below s.requires.0.accepted (here s), records-few s.requires.0.accepted, valid-header s.requires.0.tables)
+    omega (arith, here-below c.requires.0.accepted (here c.before.before.before), records-few c.requires.0.accepted, valid-header c.requires.0.tables)
 
 u32-at-requires : tie.Need-u32_at-requires
-u32-at-requires c κs = let s = c.before.before.before in omega (arith, (here-keeps (here s)).inside)
+u32-at-requires c κs = omega (arith, (here-keeps (here c.before.before.before)).inside)
 
 settle-requires : tie.Need-settle-requires
 settle-requires c κs =
-    let s = c.before.before.before.before in
-    (s.requires.0, behind s.requires.0.accepted (here s) c.u32_at.ensures)
+    (c.requires.0, behind c.requires.0.accepted (here c.before.before.before.before) c.u32_at.ensures)
 
 pub next_spec : {M : Type 1} → statement M
 next_spec = tie.close (tie.spec (λ c. search rules) add-settle u32-at-requires settle-requires (λ c. search rules))

@@ -20,49 +20,36 @@ abbrev decreases-loop : tie.decreases-loop-named
 decreases-loop cache t number bucket «record» k₀ named₀ k named = buckets cache - k
 
 -- what was told at the start
-abbrev start : tie.In-loop-named invariant-loop decreases-loop → tie.Start invariant-loop decreases-loop
-start c = c.before.before.before
-
 add-k : tie.Need-overflow_add-k invariant-loop decreases-loop
-add-k c = omega (arith, c.before.loop-named.invariant.bucket, valid-header (start c).requires.0.tables)
+add-k c = omega (arith, c.loop-named.invariant.bucket, valid-header c.requires.0.tables)
 
 returns : tie.Need-returns-then-k-t invariant-loop decreases-loop
 returns c =
-    let turn = c.before.before in
-    let s = start turn in
-    let ended = turn.loop-named-test.true in
-    let last : suc turn.before.loop-named.k ≡ buckets s.args.cache.now = omega (arith, c.if-k-t.true, same-buckets s.pre.0.tables) in
-    (record { here = λ real. absurd (real ended); all = λ e. before-all s.pre.0.accepted turn.before.loop-named.invariant ended last }, refl)
+    let ended = c.loop-named-test.true in
+    let last : suc c.loop-named.k ≡ buckets c.args.cache.now = omega (arith, c.if-k-t.true, same-buckets c.requires.0.tables) in
+    (record { here = λ real. absurd (real ended); all = λ e. before-all c.requires.0.accepted c.loop-named.invariant ended last }, refl)
 
 -- the next bucket's field
 module _ (c : tie.Else-k-t invariant-loop decreases-loop) where
-  abbrev turn : tie.In-loop-named invariant-loop decreases-loop
-  turn = c.before.before
-
-  more : suc turn.before.loop-named.k < buckets (start turn).args.cache.now
-  more = omega (arith, c.if-k-t.false, same-buckets (start turn).pre.0.tables, turn.before.loop-named.inv.bucket)
+  more : suc c.loop-named.k < buckets c.args.cache.now
+  more = omega (arith, c.if-k-t.false, same-buckets c.requires.0.tables, c.loop-named.invariant.bucket)
 
 u32-at-requires : tie.Need-u32_at-named-requires invariant-loop decreases-loop
 u32-at-requires c κs =
-    let s = start (turn c.before) in
-    let k = (turn c.before).before.loop-named.k + 1 in
-    let inside = field-inside s.pre.0.tables k (omega (arith, more c.before)) in
-    omega (arith, c.bucket_field.ensures ∙ same-field s.pre.0.tables k)
+    let k = c.loop-named.k + 1 in
+    let inside = field-inside c.requires.0.tables k (omega (arith, more c.before)) in
+    omega (arith, c.bucket_field.ensures ∙ same-field c.requires.0.tables k)
 
 loop-again : tie.Need-loop-named-preserved invariant-loop decreases-loop
 loop-again c =
-    let field = c.before in
-    let t = turn field.before in
-    let s = start t in
-    let k = t.before.loop-named.k in
-    let told = field.bucket_field.ensures ∙ same-field s.pre.0.tables (k + 1) in
-    rw add-one (before-next s.pre.0.accepted t.before.loop-named.inv t.loop-named-test.taken (more field.before)
-    (c.u32_at-named.ensures ∙ ap (be 4 s.args.cache.now) (rw add-one at told)))
+    let k = c.loop-named.k in
+    let told = c.bucket_field.ensures ∙ same-field c.requires.0.tables (k + 1) in
+    rw add-one (before-next c.requires.0.accepted c.loop-named.invariant c.loop-named-test.true (more c.before.before)
+    (c.u32_at-named.ensures ∙ ap (be 4 c.args.cache.now) (rw add-one at told)))
 
 returns-2 : tie.Need-returns invariant-loop decreases-loop
 returns-2 c =
-    let l = c.before in
-    (record { here = before_here l.before.before.requires.0.accepted l.loop-named.invariant; all = λ e. absurd (c.loop-named-test.false e) }, refl)
+    (record { here = before_here c.requires.0.accepted c.loop-named.invariant; all = λ e. absurd (c.loop-named-test.false e) }, refl)
 
 pub settle_spec : {M : Type 1} → statement M
 settle_spec =
@@ -70,11 +57,11 @@ settle_spec =
     (tie.spec
     invariant-loop
     decreases-loop
-    (λ c. c.before.requires.1)
+    (λ c. c.requires.1)
     add-k
     returns
     (λ c κs. search rules)
     u32-at-requires
-    (λ c. let t = turn c.before.before in omega (arith, t.before.loop-named.inv.bucket))
+    (λ c. omega (arith, c.loop-named.invariant.bucket))
     loop-again
     returns-2)

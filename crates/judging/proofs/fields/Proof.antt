@@ -17,48 +17,40 @@ use Rattle.judging.proofs.fields.Tie as tie
 
 returns : tie.Need-returns-then-catalogue-lt2
 returns c =
-    let cut = first-count-cut c.before.before.before.args.catalogue.now (omega arith) in
+    let cut = first-count-cut c.args.catalogue.now (omega arith) in
     parted-broken (c.no_parts.ensures ∙ sym cut) (λ z. omega (arith, same_number cut))
 
 -- the paths are judged
-abbrev start : tie.After-paths-judged → tie.Start
-start c = c.before.before.before.before
-
 module _ (c : tie.After-paths-judged) where
-  told : let s = (start c).args.catalogue.now in c.paths-judged.result ≡ row_judged (path_fields_fault s) (path_end s) (path_count s) 2
-  told = let s = (start c).args.catalogue.now in c.paths-judged.ensures ∙ ap (λ n. row_judged (path_fields_fault s) (path_end s) n 2) c.before.u16_at-n.ensures
+  told : let s = c.args.catalogue.now in c.paths-judged.result ≡ row_judged (path_fields_fault s) (path_end s) (path_count s) 2
+  told = let s = c.args.catalogue.now in c.paths-judged.ensures ∙ ap (λ n. row_judged (path_fields_fault s) (path_end s) n 2) c.u16_at-n.ensures
 
-  fault-is : let s = (start c).args.catalogue.now in c.paths-judged.result.fault ≡ first_fault (path_fields_fault s) (path_end s) (path_count s) 2
+  fault-is : let s = c.args.catalogue.now in c.paths-judged.result.fault ≡ first_fault (path_fields_fault s) (path_end s) (path_count s) 2
   fault-is = ap (λ (b : Judged). b.fault-1) told
 
-  there : 2 ≤ length (start c).args.catalogue.now
+  there : 2 ≤ length c.args.catalogue.now
   there = omega arith
 
 returns-2 : tie.Need-returns-then-fault-ne0
 returns-2 c =
-    let i = c.before.before.before.before in
-    let broken = rw (fault-is i) at c.before.if-fault-ne0.true in
-    let refused = paths-refused _ (there i) broken in
-    parted-broken (c.no_parts-then-fault-ne0.ensures ∙ fault-is i ∙ sym refused) (rw (← refused) at broken)
+    let broken = rw (fault-is c.before.before.before.before) at c.if-fault-ne0.true in
+    let refused = paths-refused _ (there c.before.before.before.before) broken in
+    parted-broken (c.no_parts-then-fault-ne0.ensures ∙ fault-is c.before.before.before.before ∙ sym refused) (rw (← refused) at broken)
 
 -- they are kept, and end where the icons are counted
 module _ (c : tie.Else-fault-ne0) where
-  abbrev judge : tie.After-paths-judged
-  judge = c.before.before.before
+  kept : let s = c.args.catalogue.now in (first_fault (path_fields_fault s) (path_end s) (path_count s) 2).number ≡ 0
+  kept = sym (same_number (fault-is c.before.before.before)) ∙ c.if-fault-ne0.false
 
-  kept : let s = (start judge).args.catalogue.now in (first_fault (path_fields_fault s) (path_end s) (path_count s) 2).number ≡ 0
-  kept = sym (same_number (fault-is judge)) ∙ c.if-fault-ne0.false
+  end_is : c.paths-judged.result.end ≡ icon_count_at c.args.catalogue.now
+  end_is = judged-end (path_fields_fault _) _ _ _ (told c.before.before.before) c.if-fault-ne0.false
 
-  end_is : judge.paths-judged.result.end ≡ icon_count_at (start judge).args.catalogue.now
-  end_is = judged-end (path_fields_fault _) _ _ _ (told judge) c.if-fault-ne0.false
-
-  end-inside : judge.paths-judged.result.end ≤ length (start judge).args.catalogue.now
-  end-inside = let s = (start judge).args.catalogue.now in omega (arith, end_is, row_inside (path_fields_fault s) (path_end s) (path_inside s) (path_count s) 2 (there judge) kept)
+  end-inside : c.paths-judged.result.end ≤ length c.args.catalogue.now
+  end-inside = let s = c.args.catalogue.now in omega (arith, end_is, row_inside (path_fields_fault s) (path_end s) (path_inside s) (path_count s) 2 (there c.before.before.before) kept)
 
 returns-3 : tie.Need-returns
 returns-3 c =
-    let e = c.before in
-    icons-decide _ (there (judge e)) (kept e) (judge e).before.u16_at-n.ensures (end_is e) c.icon_section.ensures
+    icons-decide _ (there c.before.before.before.before) (kept c.before) c.u16_at-n.ensures (end_is c.before) c.icon_section.ensures
 
 pub fields_spec : {M : Type 1} → statement M
 fields_spec =

@@ -20,66 +20,57 @@ use Rattle.judging.proofs.icon_section.Tie as tie
 
 returns : tie.Need-returns-then-catalogue-at-lt2
 returns c =
-    let a = c.before.before.before.args in
+    let a = c.args in
     let cut = count_cut a.catalogue.now a.n a.at (omega arith) in
     parted-broken (c.no_parts.ensures ∙ sym cut) (λ z. omega (arith, same_number cut))
 
 -- the icons are judged
-abbrev start : tie.After-icons-judged → tie.Start
-start c = c.before.before.before.before
-
 module _ (c : tie.After-icons-judged) where
-  told : let a = (start c).args in
+  told : let a = c.args in
       let s = a.catalogue.now in
       c.icons-judged.result ≡ row_judged (icon_fields_fault a.n s) (icon_end s) (be 2 s a.at) (a.at + 2)
   told =
-      let a = (start c).args in
+      let a = c.args in
       let s = a.catalogue.now in
-      c.icons-judged.ensures ∙ ap (λ m. row_judged (icon_fields_fault a.n s) (icon_end s) m (a.at + 2)) c.before.u16_at-count.ensures
+      c.icons-judged.ensures ∙ ap (λ m. row_judged (icon_fields_fault a.n s) (icon_end s) m (a.at + 2)) c.u16_at-count.ensures
 
-  fault-is : let a = (start c).args in
+  fault-is : let a = c.args in
       let s = a.catalogue.now in
       c.icons-judged.result.fault ≡ first_fault (icon_fields_fault a.n s) (icon_end s) (be 2 s a.at) (a.at + 2)
   fault-is = ap (λ (b : Judged). b.fault-1) told
 
-  there : (start c).args.at + 2 ≤ length (start c).args.catalogue.now
+  there : c.args.at + 2 ≤ length c.args.catalogue.now
   there = omega arith
 
 returns-2 : tie.Need-returns-then-fault-ne0
 returns-2 c =
-    let i = c.before.before.before.before in
-    let broken = rw (fault-is i) at c.before.if-fault-ne0.true in
-    let refused = icons-refused _ _ _ (there i) broken in
-    parted-broken (c.no_parts-then-fault-ne0.ensures ∙ fault-is i ∙ sym refused) (rw (← refused) at broken)
+    let broken = rw (fault-is c.before.before.before.before) at c.if-fault-ne0.true in
+    let refused = icons-refused _ _ _ (there c.before.before.before.before) broken in
+    parted-broken (c.no_parts-then-fault-ne0.ensures ∙ fault-is c.before.before.before.before ∙ sym refused) (rw (← refused) at broken)
 
 -- they are kept, and end somewhere
 module _ (c : tie.Else-fault-ne0) where
-  abbrev judge : tie.After-icons-judged
-  judge = c.before.before.before
-
-  kept : let a = (start judge).args in
+  kept : let a = c.args in
       let s = a.catalogue.now in
       (first_fault (icon_fields_fault a.n s) (icon_end s) (be 2 s a.at) (a.at + 2)).number ≡ 0
-  kept = sym (same_number (fault-is judge)) ∙ c.if-fault-ne0.false
+  kept = sym (same_number (fault-is c.before.before.before)) ∙ c.if-fault-ne0.false
 
-  end_is : let a = (start judge).args in
+  end_is : let a = c.args in
       let s = a.catalogue.now in
-      judge.icons-judged.result.end ≡ row_end (icon_end s) (be 2 s a.at) (a.at + 2)
-  end_is = let a = (start judge).args in judged-end (icon_fields_fault a.n _) _ _ _ (told judge) c.if-fault-ne0.false
+      c.icons-judged.result.end ≡ row_end (icon_end s) (be 2 s a.at) (a.at + 2)
+  end_is = let a = c.args in judged-end (icon_fields_fault a.n _) _ _ _ (told c.before.before.before) c.if-fault-ne0.false
 
 returns-3 : tie.Need-returns-then-judged-catalogue
 returns-3 c =
-    let e = c.before.before.before in
-    let follows = more-follows _ _ _ (there (judge e)) (kept e) (rw (end_is e) at c.before.if-judged-catalogue.true) in
-    parted-broken (c.no_parts-then-judged-catalogue.ensures ∙ ap (fault 18) (end_is e) ∙ sym follows) (λ z. omega (arith, same_number follows))
+    let follows = more-follows _ _ _ (there c.before.before.before.before.before.before) (kept c.before.before.before) (rw (end_is c.before.before.before) at c.if-judged-catalogue.true) in
+    parted-broken (c.no_parts-then-judged-catalogue.ensures ∙ ap (fault 18) (end_is c.before.before.before) ∙ sym follows) (λ z. omega (arith, same_number follows))
 
 returns-4 : tie.Need-returns
 returns-4 c =
-    let e = c.before.before in
     record {
-      fault = sym (icons-kept _ _ _ (there (judge e)) (kept e) (rw (end_is e) at c.if-judged-catalogue.false));
+      fault = sym (icons-kept _ _ _ (there c.before.before.before.before.before) (kept c.before.before) (rw (end_is c.before.before) at c.if-judged-catalogue.false));
       paths = λ z. refl;
-      icons = λ z. (judge e).before.u16_at-count.ensures;
+      icons = λ z. c.u16_at-count.ensures;
       first = λ z. refl;
     }
 

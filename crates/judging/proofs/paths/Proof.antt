@@ -20,23 +20,21 @@ abbrev decreases-loop : tie.decreases-loop-left
 decreases-loop catalogue n at left₀ here₀ left here = left
 
 loop-holds : tie.Need-loop-left-init invariant-loop decreases-loop
-loop-holds c = (c.before.requires, refl)
+loop-holds c = (c.requires, refl)
 
 returns : tie.Need-returns-then-fault-ne0 invariant-loop decreases-loop
 returns c =
-    let judge = c.before.before.before in
-    judged-stops _ _ _ _ _ judge.before.loop-left-test.true judge.path-judged.ensures c.if-fault-ne0.true ∙ judge.before.before.loop-left.invariant.1
+    judged-stops _ _ _ _ _ c.loop-left-test.true c.path-judged.ensures c.if-fault-ne0.true ∙ c.loop-left.invariant.1
 
 loop-again : tie.Need-loop-left-preserved invariant-loop decreases-loop
 loop-again c =
-    let judge = c.before.before.before in
-    let l = judge.before.before.loop-left in (
-      judged-inside (path_fields_fault _) (path_end _) l.left l.here judge.path-judged.ensures c.if-fault-ne0.false (path_inside _ _),
-      judged-goes-on _ _ _ _ judge.path-judged.ensures c.if-fault-ne0.false _ (omega (arith, judge.before.loop-left-test)) ∙ l.invariant.1,
+    let l = c.loop-left in (
+      judged-inside (path_fields_fault _) (path_end _) l.left l.here c.path-judged.ensures c.if-fault-ne0.false (path_inside _ _),
+      judged-goes-on _ _ _ _ c.path-judged.ensures c.if-fault-ne0.false _ (omega (arith, c.loop-left-test)) ∙ l.invariant.1,
     )
 
 returns-2 : tie.Need-returns invariant-loop decreases-loop
-returns-2 c = let l = c.before.before.loop-left in judged-done _ _ _ _ (omega arith) c.kept.ensures ∙ l.invariant.1
+returns-2 c = let l = c.loop-left in judged-done _ _ _ _ (omega arith) c.kept.ensures ∙ l.invariant.1
 
 pub paths_spec : {M : Type 1} → statement M
 paths_spec =

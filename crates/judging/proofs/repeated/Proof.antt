@@ -18,41 +18,31 @@ decreases-loop catalogue m at index₀ here₀ i₀ index here i = m - i
 loop-holds : tie.Need-loop-i-init invariant-loop decreases-loop
 loop-holds c = (omega arith, refl, passed_first _ _ _ _)
 
-abbrev start : tie.At-loop-i invariant-loop decreases-loop → tie.Start invariant-loop decreases-loop
-start l = l.before.before.before
-
 -- the icon at hand lies inside, and a word can hold its offset
 module _ (c : tie.In-loop-i invariant-loop decreases-loop) where
-  inside : let l = c.before in
-      let a = (start l).args in icon_end a.catalogue.now l.loop-i.here ≤ length a.catalogue.now
-  inside = passed-inside _ _ _ c.before.loop-i.invariant.2 c.loop-i-test.true (start c.before).pre.0
+  inside : let a = c.args in icon_end a.catalogue.now c.loop-i.here ≤ length a.catalogue.now
+  inside = passed-inside _ _ _ c.loop-i.invariant.2 c.loop-i-test.true c.requires.0
 
-  small : c.before.loop-i.here < 2 ^ 32
-  small = passed-small _ _ _ c.before.loop-i.invariant.2 c.loop-i-test.true (start c.before).pre.0
+  small : c.loop-i.here < 2 ^ 32
+  small = passed-small _ _ _ c.loop-i.invariant.2 c.loop-i-test.true c.requires.0
 
 -- it was asked for its name
 module _ (c : tie.After-met invariant-loop decreases-loop) where
-  abbrev turn : tie.In-loop-i invariant-loop decreases-loop
-  turn = c.before.before
-
-  abbrev passed : let l = turn.before in
-      let a = (start l).args in Passed a.catalogue.now a.m a.at l.loop-i.index l.loop-i.here l.loop-i.i
-  passed = turn.before.loop-i.inv.2
+  abbrev passed : let a = c.args in Passed a.catalogue.now a.m a.at c.loop-i.index c.loop-i.here c.loop-i.i
+  passed = c.loop-i.invariant.2
 
 returns : tie.Need-returns-then-met invariant-loop decreases-loop
 returns c =
-    let met = c.before.before.before in
-    let p = passed met in
-    passed-repeat _ _ _ p (turn met).loop-i-test.true (met.met.ensures p.before p.known) c.if-met.true
+    let p = passed c.before.before.before in
+    passed-repeat _ _ _ p c.loop-i-test.true (c.met.ensures p.before p.known) c.if-met.true
 
 loop-again : tie.Need-loop-i-preserved invariant-loop decreases-loop
 loop-again c =
-    let met = c.before.before.before.before in
-    let p = passed met in
-    (omega arith, omega arith, passed_on _ _ _ p (turn met).loop-i-test.true (met.met.ensures p.before p.known) c.before.if-met.false c.icon_end-here.ensures)
+    let p = passed c.before.before.before.before in
+    (omega arith, omega arith, passed_on _ _ _ p c.loop-i-test.true (c.met.ensures p.before p.known) c.if-met.false c.icon_end-here.ensures)
 
 returns-2 : tie.Need-returns invariant-loop decreases-loop
-returns-2 c = passed_none _ _ _ c.before.loop-i.invariant.2 c.loop-i-test.false
+returns-2 c = passed_none _ _ _ c.loop-i.invariant.2 c.loop-i-test.false
 
 pub repeated_spec : {M : Type 1} → statement M
 repeated_spec =
@@ -62,7 +52,7 @@ repeated_spec =
     decreases-loop
     loop-holds
     (λ c. omega (arith, small c.before))
-    (λ c κs. omega (arith, (start c.before.before).pre.1))
+    (λ c κs. omega (arith, c.requires.1))
     (λ c. omega (arith, inside c.before.before.before.before.before))
     (λ c. omega arith)
     returns

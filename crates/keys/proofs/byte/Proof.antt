@@ -6,7 +6,7 @@ use Rattle.keys.proofs.byte.Statement.{statement}
 use Rattle.keys.proofs.byte.Tie as tie
 
 returns-2 : tie.Need-returns-else-i-s
-returns-2 c = sym (get_or-eq_default c.before.args.s.now 0 c.if-i-s.false)
+returns-2 c = sym (get_or-eq_default c.args.s.now 0 c.if-i-s.false)
 
 pub byte_spec : {M : Type 1} → statement M
 byte_spec = tie.close (tie.spec (λ c. search rules) (λ c. search rules) returns-2)

@@ -43,34 +43,28 @@ module _ (a b : List ℕ) (i : ℕ) (h : i < length a) (g : i < length b) where
 
 returns : tie.Need-returns-then-i-b invariant-loop decreases-loop
 returns c =
-    let l = c.before.before in
-    sym (second-ends _ _ l.loop-i.i (omega arith) (omega arith)) ∙ l.loop-i.invariant.2
+    sym (second-ends _ _ c.loop-i.i (omega arith) (omega arith)) ∙ c.loop-i.invariant.2
 
 returns-2 : tie.Need-returns-then-a-i invariant-loop decreases-loop
 returns-2 c =
-    let l = c.before.before.before.before.before in
-    sym (byte-less _ _ l.loop-i.i (omega arith) (omega arith) c.if-a-i.true) ∙ l.loop-i.invariant.2
+    sym (byte-less _ _ c.loop-i.i (omega arith) (omega arith) c.if-a-i.true) ∙ c.loop-i.invariant.2
 
 returns-3 : tie.Need-returns-then-b-i invariant-loop decreases-loop
 returns-3 c =
-    let l = c.before.before.before.before.before.before.before.before in
-    sym (byte-greater _ _ l.loop-i.i (omega arith) (omega arith) c.if-b-i.true) ∙ l.loop-i.invariant.2
+    sym (byte-greater _ _ c.loop-i.i (omega arith) (omega arith) c.if-b-i.true) ∙ c.loop-i.invariant.2
 
 loop-again : tie.Need-loop-i-preserved invariant-loop decreases-loop
 loop-again c =
-    let l = c.before.before.before.before.before.before.before.before in
-    let a = l.before.args in
-    (omega arith, omega arith, sym (byte-equal a.a.now a.b.now l.loop-i.i (omega arith) (omega arith) (omega arith)) ∙ l.loop-i.invariant.2)
+    let a = c.args in
+    (omega arith, omega arith, sym (byte-equal a.a.now a.b.now c.loop-i.i (omega arith) (omega arith) (omega arith)) ∙ c.loop-i.invariant.2)
 
 returns-4 : tie.Need-returns-then-i-b-2 invariant-loop decreases-loop
 returns-4 c =
-    let l = c.before.before in
-    sym (both-ended _ _ l.loop-i.i (omega arith) (omega arith)) ∙ l.loop-i.invariant.2
+    sym (both-ended _ _ c.loop-i.i (omega arith) (omega arith)) ∙ c.loop-i.invariant.2
 
 returns-5 : tie.Need-returns-else-i-b-2 invariant-loop decreases-loop
 returns-5 c =
-    let l = c.before.before in
-    sym (first_ends _ _ l.loop-i.i (omega arith) (omega arith)) ∙ l.loop-i.invariant.2
+    sym (first_ends _ _ c.loop-i.i (omega arith) (omega arith)) ∙ c.loop-i.invariant.2
 
 pub compare_bytes_spec : {M : Type 1} → statement M
 compare_bytes_spec =

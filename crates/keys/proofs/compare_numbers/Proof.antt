@@ -13,7 +13,7 @@ returns-2 c = sym (first-greater _ _ _ _ c.if-b-a.true)
 
 returns-3 : tie.Need-returns-else-b-a
 returns-3 c =
-    let a = c.before.before.args in
+    let a = c.args in
     sym (first-equal a.a a.b _ _ (omega arith) ∙ both_end)
 
 pub compare_numbers_spec : {M : Type 1} → statement M

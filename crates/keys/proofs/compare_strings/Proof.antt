@@ -43,41 +43,35 @@ decreases-loop a b i₀ i = length a - i
 
 returns : tie.Need-returns-then-x-y invariant-loop decreases-loop
 returns c =
-    let l = c.before.before.before.before in
-    let a = l.before.before.before.args in
-    sym (byte-less a.a.now a.b.now l.loop-i.i (omega arith)) ∙ l.loop-i.invariant.1
+    let a = c.args in
+    sym (byte-less a.a.now a.b.now c.loop-i.i (omega arith)) ∙ c.loop-i.invariant.1
 
 returns-2 : tie.Need-returns-then-y-x invariant-loop decreases-loop
 returns-2 c =
-    let l = c.before.before.before.before.before in
-    let a = l.before.before.before.args in
-    sym (byte-greater a.a.now a.b.now l.loop-i.i (omega arith)) ∙ l.loop-i.invariant.1
+    let a = c.args in
+    sym (byte-greater a.a.now a.b.now c.loop-i.i (omega arith)) ∙ c.loop-i.invariant.1
 
 returns-3 : tie.Need-returns-then-x-eq0 invariant-loop decreases-loop
 returns-3 c =
-    let l = c.before.before.before.before.before.before in
-    let a = l.before.before.before.args in
-    sym (both-stop a.a.now a.b.now l.loop-i.i c.if-x-eq0.true (omega arith)) ∙ l.loop-i.invariant.1
+    let a = c.args in
+    sym (both-stop a.a.now a.b.now c.loop-i.i c.if-x-eq0.true (omega arith)) ∙ c.loop-i.invariant.1
 
 loop-again : tie.Need-loop-i-preserved invariant-loop decreases-loop
 loop-again c =
-    let l = c.before.before.before.before.before.before in
-    let a = l.before.before.before.args in
-    (omega arith, sym (byte-equal a.a.now a.b.now l.loop-i.i (omega arith) c.if-x-eq0.false) ∙ l.loop-i.invariant.1)
+    let a = c.args in
+    (omega arith, sym (byte-equal a.a.now a.b.now c.loop-i.i (omega arith) c.if-x-eq0.false) ∙ c.loop-i.invariant.1)
 
 returns-4 : tie.Need-returns-then-byte-eq0 invariant-loop decreases-loop
 returns-4 c =
-    let l = c.before.before.before in
-    let a = l.before.before.before.args in
-    let over = get_or-eq_default a.a.now 0 c.before.before.loop-i-test.false in
-    sym (both-stop a.a.now a.b.now l.loop-i.i over (omega arith)) ∙ l.loop-i.invariant.1
+    let a = c.args in
+    let over = get_or-eq_default a.a.now 0 c.loop-i-test.false in
+    sym (both-stop a.a.now a.b.now c.loop-i.i over (omega arith)) ∙ c.loop-i.invariant.1
 
 returns-5 : tie.Need-returns-else-byte-eq0 invariant-loop decreases-loop
 returns-5 c =
-    let l = c.before.before.before in
-    let a = l.before.before.before.args in
-    let over = get_or-eq_default a.a.now 0 c.before.before.loop-i-test.false in
-    sym (byte-less a.a.now a.b.now l.loop-i.i (omega arith)) ∙ l.loop-i.invariant.1
+    let a = c.args in
+    let over = get_or-eq_default a.a.now 0 c.loop-i-test.false in
+    sym (byte-less a.a.now a.b.now c.loop-i.i (omega arith)) ∙ c.loop-i.invariant.1
 
 pub compare_strings_spec : {M : Type 1} → statement M
 compare_strings_spec =

@@ -9,12 +9,12 @@ use Rattle.keys.proofs.front.Tie as tie
 
 slice-aggregate-result : tie.Need-slice_bounds-result-end
 slice-aggregate-result c =
-    let a = c.before.before.args in
-    sym (length-take-le a.n a.s.now c.before.if-n-s.true)
+    let a = c.args in
+    sym (length-take-le a.n a.s.now c.if-n-s.true)
 
 returns-2 : tie.Need-returns-else-n-s
 returns-2 c =
-    let a = c.before.args in
+    let a = c.args in
     sym (take_all a.n a.s.now (omega arith))
 
 pub front_spec : {M : Type 1} → statement M

@@ -6,7 +6,7 @@ use Rattle.keys.proofs.name_after.Statement.{statement}
 use Rattle.keys.proofs.name_after.Tie as tie
 
 returns : tie.Need-returns
-returns c = c.front.ensures ∙ rw (c.before.from.ensures, c.before.before.byte-n.ensures, be-byte)
+returns c = c.front.ensures ∙ rw (c.from.ensures, c.byte-n.ensures, be-byte)
 
 pub name_after_spec : {M : Type 1} → statement M
 name_after_spec =

@@ -9,10 +9,10 @@ pub behind_record_spec : {M : Type 1} → statement M
 behind_record_spec =
     tie.close
     (tie.spec
-    (λ c. omega (arith, c.before.requires))
-    (λ c κs. omega (arith, c.before.requires))
+    (λ c. omega (arith, c.requires))
+    (λ c κs. omega (arith, c.requires))
     (λ c. search rules)
-    (λ c κs. omega (arith, c.before.before.requires, c.u32_at-at.ensures))
-    (λ c. omega (arith, c.before.before.before.requires))
-    (λ c κs. rw (c.u32_at-count.ensures, c.before.u32_at-at.ensures) c.before.before.before.requires.1)
-    (λ c. c.behind.ensures ∙ rw (c.before.u32_at-count.ensures, c.before.before.u32_at-at.ensures)))
+    (λ c κs. omega (arith, c.requires, c.u32_at-at.ensures))
+    (λ c. omega (arith, c.requires))
+    (λ c κs. rw (c.u32_at-count.ensures, c.u32_at-at.ensures) c.requires.1)
+    (λ c. c.behind.ensures ∙ rw (c.u32_at-count.ensures, c.u32_at-at.ensures)))

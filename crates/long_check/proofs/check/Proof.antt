@@ -11,27 +11,24 @@ use Rattle.long_check.specs.Laws.Check.{decided, breaks-decides}
 use Rattle.long_check.proofs.check.Statement.{statement}
 use Rattle.long_check.proofs.check.Tie as tie
 
-decides : (c : tie.After-sound_records-sound) → Decided c.before.before.args.cache.now c.sound_records-sound.result
-decides c = rw (c.sound_records-sound.ensures, c.before.before.requires) (decided _)
+decides : (c : tie.After-sound_records-sound) → Decided c.args.cache.now c.sound_records-sound.result
+decides c = rw (c.sound_records-sound.ensures, c.requires) (decided _)
 
-tables-kept : (c : tie.Else-sound-eq0) → TablesKept c.before.before.before.args.cache.now
+tables-kept : (c : tie.Else-sound-eq0) → TablesKept c.args.cache.now
 tables-kept c = (decides c.before).tables-kept (omega (arith, c.if-sound-eq0.false))
 
 -- no record to go over
 returns : tie.Need-returns-then-sound-eq0
 returns c =
-    c.before.before.before.requires ∙ sym ((decides c.before).same (stands-done (stands-first refl) (omega (arith, c.if-sound-eq0.true))))
+    c.requires ∙ sym ((decides c.before).same (stands-done (stands-first refl) (omega (arith, c.if-sound-eq0.true))))
 
 returns-2 : tie.Need-returns-then-fault-eq0
 returns-2 c =
-    let scanned = c.before.before.before in
-    let sound = scanned.before.before.before in
-    sound.before.before.requires ∙ sym ((decides sound).same (scanned.scan-scanned.ensures.kept c.if-fault-eq0.true))
+    c.requires ∙ sym ((decides c.before.before.before.before.before.before).same (c.scan-scanned.ensures.kept c.if-fault-eq0.true))
 
 returns-3 : tie.Need-returns
 returns-3 c =
-    let scanned = c.before.before.before.before in
-    c.refused.ensures ∙ sym (breaks-decides _ (tables-kept scanned.before.before) (scanned.scan-scanned.ensures.broken c.before.if-fault-eq0.false))
+    c.refused.ensures ∙ sym (breaks-decides _ (tables-kept c.before.before.before.before.before.before) (c.scan-scanned.ensures.broken c.if-fault-eq0.false))
 
 pub check_spec : {M : Type 1} → statement M
 check_spec =

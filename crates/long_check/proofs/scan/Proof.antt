@@ -16,80 +16,58 @@ invariant-loop cache t sound bucket₀ field₀ passed₀ mark₀ limit₀ bucke
 abbrev decreases-loop : tie.decreases-loop-passed
 decreases-loop cache t sound bucket₀ field₀ passed₀ mark₀ limit₀ bucket field passed mark limit = sound - passed + (t.buckets - bucket)
 
-abbrev start : tie.At-loop-passed invariant-loop decreases-loop → tie.Start invariant-loop decreases-loop
-start l = l.before.before.before
-
 -- the walk goes on
-below : (c : tie.In-loop-passed invariant-loop decreases-loop) → c.before.loop-passed.bucket < (start c.before).args.t.buckets
+below : (c : tie.In-loop-passed invariant-loop decreases-loop) → c.loop-passed.bucket < c.args.t.buckets
 below c =
-    let l = c.before in
-    let pre = (start l).requires in
-    omega (arith, bucket-below pre.1 l.loop-passed.invariant.1 c.loop-passed-test.true, same-buckets pre.0)
+    let pre = c.requires in
+    omega (arith, bucket-below pre.1 c.loop-passed.invariant.1 c.loop-passed-test.true, same-buckets pre.0)
 
 loop-holds : tie.Need-loop-passed-init invariant-loop decreases-loop
-loop-holds c = (0, stands-first (c.bucket_field-field.ensures ∙ same-field c.before.before.requires.0 0))
+loop-holds c = (0, stands-first (c.bucket_field-field.ensures ∙ same-field c.requires.0 0))
 
 loop-again : tie.Need-loop-passed-preserved-then-record invariant-loop decreases-loop
 loop-again c =
-    let read = c.before.before in
-    let l = read.before.before in
-    let pre = (start l).requires in (
+    let pre = c.requires in (
       0,
-      stands-next pre.1 l.loop-passed.invariant.1 read.before.loop-passed-test.true read.u32_at-record.ensures c.before.if-record.true
+      stands-next pre.1 c.loop-passed.invariant.1 c.loop-passed-test.true c.u32_at-record.ensures c.if-record.true
           (c.bucket_field-field-then-record.ensures ∙ same-field pre.0 _),
     )
 
 -- the chain comes back
 returns : tie.Need-returns-then-record-mark invariant-loop decreases-loop
 returns c =
-    let else = c.before.before in
-    let read = else.before in
-    let same = c.before.if-record-mark.true in
+    let same = c.if-record-mark.true in
     rw c.unbroken.ensures (record {
       broken = λ some. absurd (some refl);
       kept = λ z len k n region few.
-          stands-round read.before.before.loop-passed.invariant.1 (λ e. else.if-record.false (same ∙ e)) (sym same ∙ read.u32_at-record.ensures) len k n region;
+          stands-round c.loop-passed.invariant.1 (λ e. c.if-record.false (same ∙ e)) (sym same ∙ c.u32_at-record.ensures) len k n region;
     })
 
 behind-record-requires : tie.Need-behind_record-fault-requires invariant-loop decreases-loop
 behind-record-requires c κs =
-    let read = c.before.before in
-    let l = read.before.before in
-    let pre = (start l).requires in (
-      sound-inside pre.1 l.loop-passed.invariant.1 read.before.loop-passed-test.true read.u32_at-record.ensures c.before.if-record.false,
-      sound-listed pre.1 l.loop-passed.invariant.1 read.before.loop-passed-test.true read.u32_at-record.ensures c.before.if-record.false,
+    let pre = c.requires in (
+      sound-inside pre.1 c.loop-passed.invariant.1 c.loop-passed-test.true c.u32_at-record.ensures c.if-record.false,
+      sound-listed pre.1 c.loop-passed.invariant.1 c.loop-passed-test.true c.u32_at-record.ensures c.if-record.false,
     )
 
 returns-2 : tie.Need-returns-then-fault-ne0 invariant-loop decreases-loop
 returns-2 c =
-    let judged = c.before.before in
-    let else = judged.before.before in
-    let read = else.before in
-    let l = read.before.before in
-    let pre = (start l).requires in
+    let pre = c.requires in
     record {
-      broken = breaks-here pre.1 l.loop-passed.invariant.1 read.before.loop-passed-test.true read.u32_at-record.ensures else.if-record.false judged.behind_record-fault.ensures;
+      broken = breaks-here pre.1 c.loop-passed.invariant.1 c.loop-passed-test.true c.u32_at-record.ensures c.if-record.false c.behind_record-fault.ensures;
       kept = λ z. absurd (c.if-fault-ne0.true z);
     }
 
 -- a record that keeps the long rules is left behind, and may be remembered
-abbrev inside : tie.Else-fault-ne0 invariant-loop decreases-loop → tie.In-loop-passed invariant-loop decreases-loop
-inside c = c.before.before.before.before.before.before
-
 on : (c : tie.Else-fault-ne0 invariant-loop decreases-loop) →
-    let l = (inside c).before in
-    let s = (start l).args.cache.now in
-    let r = c.before.before.before.before.before.u32_at-record.result in
-    let passed = l.loop-passed.passed + 1 in
-    let n = l.loop-passed.inv.0 + 1 in
-    Stands s l.loop-passed.bucket r n passed l.loop-passed.mark × Stands s l.loop-passed.bucket r n passed r
+    let s = c.args.cache.now in
+    let r = c.u32_at-record.result in
+    let passed = c.loop-passed.passed + 1 in
+    let n = c.loop-passed.invariant.0 + 1 in
+    Stands s c.loop-passed.bucket r n passed c.loop-passed.mark × Stands s c.loop-passed.bucket r n passed r
 on c =
-    let judged = c.before.before in
-    let else = judged.before.before in
-    let read = else.before in
-    let l = read.before.before in
-    let pre = (start l).requires in
-    stands_on pre.1 l.loop-passed.invariant.1 read.before.loop-passed-test.true read.u32_at-record.ensures else.if-record.false judged.behind_record-fault.ensures c.if-fault-ne0.false
+    let pre = c.requires in
+    stands_on pre.1 c.loop-passed.invariant.1 c.loop-passed-test.true c.u32_at-record.ensures c.if-record.false c.behind_record-fault.ensures c.if-fault-ne0.false
 
 pub scan_spec : {M : Type 1} → statement M
 scan_spec =
@@ -99,7 +77,7 @@ scan_spec =
     decreases-loop
     (λ c κs. search rules)
     loop-holds
-    (λ c κs. let l = c.before in let pre = (start l).requires in stands-inside pre.1 l.loop-passed.invariant.1 c.loop-passed-test.true pre.0)
+    (λ c κs. let pre = c.requires in stands-inside pre.1 c.loop-passed.invariant.1 c.loop-passed-test.true pre.0)
     (λ c. omega (arith, below c.before.before))
     (λ c κs. search rules)
     (λ c. omega (arith, below c.before.before.before))
@@ -110,10 +88,10 @@ scan_spec =
     (λ c. search rules)
     behind-record-requires
     returns-2
-    (λ c. let l = (inside c.before).before in let pre = (start l).pre in omega (arith, (inside c.before).loop-passed-test.taken, pre.1.few, (valid-header pre.0).not-too-long))
+    (λ c. let pre = c.requires in omega (arith, c.loop-passed-test.true, pre.1.few, (valid-header pre.0).not-too-long))
     (λ c. omega arith)
     (λ c. (_, (on c.before).1))
     (λ c. omega arith)
     (λ c. (_, (on c.before).0))
     (λ c κs. search rules)
-    (λ c. rw c.unbroken-2.ensures (record { broken = λ some. absurd (some refl); kept = λ z. stands-done c.before.before.loop-passed.invariant.1 c.before.loop-passed-test.false })))
+    (λ c. rw c.unbroken-2.ensures (record { broken = λ some. absurd (some refl); kept = λ z. stands-done c.loop-passed.invariant.1 c.loop-passed-test.false })))

@@ -12,5 +12,5 @@ sound_records_spec =
     tie.close
     (tie.spec
     (λ c. search rules)
-    (λ c. omega (arith, c.if-short-broken.true, c.before.before.unsound-broken.ensures))
-    (λ c. omega (arith, c.before.if-short-broken.false, c.before.before.before.unsound-broken.ensures)))
+    (λ c. omega (arith, c.if-short-broken.true, c.unsound-broken.ensures))
+    (λ c. omega (arith, c.if-short-broken.false, c.unsound-broken.ensures)))

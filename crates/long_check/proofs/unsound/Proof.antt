@@ -10,4 +10,4 @@ unsound_spec =
     (λ c. rw c.if-number-eq0.true)
     (λ c. rw c.if-number-eq12.true)
     (λ c. rw c.if-number-eq7.true)
-    (λ c. rw (ne_eqb _ 0 c.before.before.if-number-eq0.false, ne_eqb _ 12 c.before.if-number-eq12.false, ne_eqb _ 7 c.if-number-eq7.false)))
+    (λ c. rw (ne_eqb _ 0 c.if-number-eq0.false, ne_eqb _ 12 c.if-number-eq12.false, ne_eqb _ 7 c.if-number-eq7.false)))

@@ -10,7 +10,7 @@ use Rattle.marks.proofs.mark.Statement.{statement}
 use Rattle.marks.proofs.mark.Tie as tie
 
 returns : tie.Need-returns-then-word-marks
-returns c = let a = c.before.before.args in marks-set _ _ (ap (bit_or (get_or a.marks.now (a.i / 32) 0)) (one_shifted (a.i % 32) (omega arith))) (omega arith)
+returns c = let a = c.args in marks-set _ _ (ap (bit_or (get_or a.marks.now (a.i / 32) 0)) (one_shifted (a.i % 32) (omega arith))) (omega arith)
 
 returns-2 : tie.Need-returns-else-word-marks
 returns-2 c = marks-none _ _ (omega arith)

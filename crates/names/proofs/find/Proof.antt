@@ -23,26 +23,21 @@ middle l = l.loop-low.low + (l.loop-low.high - l.loop-low.low) / 2
 
 loop-again : tie.Need-loop-low-preserved-in-Less invariant-loop decreases-loop
 loop-again c =
-    let compared = c.before.before in
-    let l = compared.before.before.before in
-    let inside : middle l < l.before.before.before.args.n = omega arith in
-    (omega arith, omega arith, λ rising. after-middle _ _ _ _ rising (l.loop-low.invariant.2 rising) (middle l) inside compared.compare-order.ensures c.enum_told-1.given.1)
+    let inside : middle c.before.before.before.before.before < c.args.n = omega arith in
+    (omega arith, omega arith, λ rising. after-middle _ _ _ _ rising (c.loop-low.invariant.2 rising) (middle c.before.before.before.before.before) inside c.compare-order.ensures c.enum_told-1.given.1)
 
 returns : tie.Need-returns-in-Equal invariant-loop decreases-loop
-returns c = (omega arith, λ rising. order-equal _ _ (sym c.before.before.compare-order.ensures ∙ c.enum_told-in-Equal-1.given.1))
+returns c = (omega arith, λ rising. order-equal _ _ (sym c.compare-order.ensures ∙ c.enum_told-in-Equal-1.given.1))
 
 loop-again-2 : tie.Need-loop-low-preserved invariant-loop decreases-loop
 loop-again-2 c =
-    let compared = c.before.before in
-    let l = compared.before.before.before in
-    let inside : middle l < l.before.before.before.args.n = omega arith in
-    (omega arith, omega arith, λ rising. before-middle _ _ _ _ rising (l.loop-low.invariant.2 rising) (middle l) inside compared.compare-order.ensures c.enum_told-in-Greater-1.given.1)
+    let inside : middle c.before.before.before.before.before < c.args.n = omega arith in
+    (omega arith, omega arith, λ rising. before-middle _ _ _ _ rising (c.loop-low.invariant.2 rising) (middle c.before.before.before.before.before) inside c.compare-order.ensures c.enum_told-in-Greater-1.given.1)
 
 returns-2 : tie.Need-returns invariant-loop decreases-loop
 returns-2 c =
-    let l = c.before in
-    let met : l.loop-low.high ≡ l.loop-low.low = omega arith in
-    (omega arith, λ rising. rw met at (l.loop-low.invariant.2 rising))
+    let met : c.loop-low.high ≡ c.loop-low.low = omega arith in
+    (omega arith, λ rising. rw met at (c.loop-low.invariant.2 rising))
 
 pub find_spec : {M : Type 1} → statement M
 find_spec =

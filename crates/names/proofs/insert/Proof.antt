@@ -49,14 +49,12 @@ decreases-loop index₀ n i at hole₀ index hole = hole
 
 loop-again : tie.Need-loop-hole-preserved invariant-loop decreases-loop
 loop-again c =
-    let l = c.before.before in
-    (omega arith, omega arith, simp length-set (omega arith), opened-more _ l.loop-hole.index _ l.loop-hole.hole l.loop-hole.invariant.3 (omega arith) (omega arith))
+    (omega arith, omega arith, simp length-set (omega arith), opened-more _ c.loop-hole.index _ c.loop-hole.hole c.loop-hole.invariant.3 (omega arith) (omega arith))
 
 returns : tie.Need-returns invariant-loop decreases-loop
 returns c =
-    let l = c.before in
-    let e : l.loop-hole.hole ≡ l.before.args.i = omega arith in
-    rw e at (opened-filled _ l.loop-hole.index _ l.loop-hole.hole l.loop-hole.invariant.3 (omega arith) l.before.args.at)
+    let e : c.loop-hole.hole ≡ c.args.i = omega arith in
+    rw e at (opened-filled _ c.loop-hole.index _ c.loop-hole.hole c.loop-hole.invariant.3 (omega arith) c.args.at)
 
 pub insert_spec : {M : Type 1} → statement M
 insert_spec =

@@ -7,8 +7,7 @@ use Rattle.notes.proofs.again.Tie as tie
 
 returns : tie.Need-returns-then-u32_at-last
 returns c =
-    let read = c.before.before in
-    let kept = read.before.before.requires.1 _ (sym read.u32_at.ensures ∙ c.before.if-u32_at-last.true) in
+    let kept = c.requires.1 _ (sym c.u32_at.ensures ∙ c.if-u32_at-last.true) in
     record { kept = λ z. kept; broken = λ some. absurd (some (same_number c.none.ensures)) }
 
 returns-2 : tie.Need-returns-else-u32_at-last

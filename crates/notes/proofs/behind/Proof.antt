@@ -21,24 +21,19 @@ decreases-loop cache count at left₀ here₀ last₀ left here last = left
 
 loop-holds : tie.Need-loop-left-init invariant-loop decreases-loop
 unfolding image_data_fault
-loop-holds c = (c.before.requires, refl, λ f e. same_number (part-absent _ e))
+loop-holds c = (c.requires, refl, λ f e. same_number (part-absent _ e))
 
 returns : tie.Need-returns-then-judged-ne0 invariant-loop decreases-loop
 returns c =
-    let judged = c.before.before in
-    let l = judged.before.before in
-    let told = judged.again-judged.ensures.broken c.if-judged-ne0.true in
-    told ∙ sym (first-stop _ _ _ _ (omega arith) (rw told at c.if-judged-ne0.true)) ∙ l.loop-left.invariant.1
+    let told = c.again-judged.ensures.broken c.if-judged-ne0.true in
+    told ∙ sym (first-stop _ _ _ _ (omega arith) (rw told at c.if-judged-ne0.true)) ∙ c.loop-left.invariant.1
 
 loop-again : tie.Need-loop-left-preserved invariant-loop decreases-loop
 loop-again c =
-    let else = c.before in
-    let judged = else.before.before in
-    let l = judged.before.before in
-    let cache = l.before.before.args.cache.now in
-    let kept = judged.again-judged.ensures.kept else.if-judged-ne0.false in (
+    let cache = c.args.cache.now in
+    let kept = c.again-judged.ensures.kept c.if-judged-ne0.false in (
       omega arith,
-      sym (first-go-on _ _ _ _ (l.loop-left.left - 1) (omega arith) kept) ∙ l.loop-left.invariant.1,
+      sym (first-go-on _ _ _ _ (c.loop-left.left - 1) (omega arith) kept) ∙ c.loop-left.invariant.1,
       λ f e. same-data cache _ f (e ∙ c.u32_at-last.ensures) kept,
     )
 
@@ -50,7 +45,7 @@ behind_spec =
     decreases-loop
     loop-holds
     (λ c. omega arith)
-    (λ c κs. (omega arith, c.before.loop-left.invariant.2))
+    (λ c κs. (omega arith, c.loop-left.invariant.2))
     returns
     (λ c. omega arith)
     (λ c κs. omega arith)
@@ -59,4 +54,4 @@ behind_spec =
     (λ c. omega arith)
     loop-again
     (λ c κs. search rules)
-    (λ c. c.none.ensures ∙ sym (first-end _ _ _ _ (omega arith)) ∙ c.before.before.loop-left.invariant.1))
+    (λ c. c.none.ensures ∙ sym (first-end _ _ _ _ (omega arith)) ∙ c.loop-left.invariant.1))

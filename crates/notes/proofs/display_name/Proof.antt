@@ -10,21 +10,21 @@ use Rattle.notes.proofs.display_name.Tie as tie
 returns : tie.Need-returns-then-language-ne0
 unfolding display_name_fault
 returns c =
-    let judged = c.before.before.note-language.ensures in
+    let judged = c.note-language.ensures in
     judged ∙ sym (or_else-first _ _ (rw judged at c.if-language-ne0.true))
 
 returns-2 : tie.Need-returns
 unfolding display_name_fault
 returns-2 c =
-    let judged = c.before.before.before.note-language.ensures in
-    c.note.ensures ∙ sym (or_else-next _ _ (rw judged at c.before.if-language-ne0.false))
+    let judged = c.note-language.ensures in
+    c.note.ensures ∙ sym (or_else-next _ _ (rw judged at c.if-language-ne0.false))
 
 pub display_name_spec : {M : Type 1} → statement M
 display_name_spec =
     tie.close
     (tie.spec
-    (λ c κs. omega (arith, c.before.requires))
+    (λ c κs. omega (arith, c.requires))
     returns
     (λ c. search rules)
-    (λ c κs. omega (arith, c.before.before.before.before.requires))
+    (λ c κs. omega (arith, c.requires))
     returns-2)

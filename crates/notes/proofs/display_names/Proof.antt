@@ -20,15 +20,13 @@ decreases-loop cache count at left₀ here₀ left here = left
 
 returns : tie.Need-returns-then-judged-ne0 invariant-loop decreases-loop
 returns c =
-    let l = c.before.before.before.before in
-    let judged = c.before.before.display_name-judged.ensures in
-    judged ∙ sym (first-stop _ _ _ _ (omega arith) (rw judged at c.if-judged-ne0.true)) ∙ l.loop-left.invariant.1
+    let judged = c.display_name-judged.ensures in
+    judged ∙ sym (first-stop _ _ _ _ (omega arith) (rw judged at c.if-judged-ne0.true)) ∙ c.loop-left.invariant.1
 
 loop-again : tie.Need-loop-left-preserved invariant-loop decreases-loop
 loop-again c =
-    let l = c.before.before.before.before in
-    let judged = c.before.before.display_name-judged.ensures in
-    (omega arith, sym (first-go-on _ _ _ _ (l.loop-left.left - 1) (omega arith) (rw judged at c.if-judged-ne0.false)) ∙ l.loop-left.invariant.1)
+    let judged = c.display_name-judged.ensures in
+    (omega arith, sym (first-go-on _ _ _ _ (c.loop-left.left - 1) (omega arith) (rw judged at c.if-judged-ne0.false)) ∙ c.loop-left.invariant.1)
 
 pub display_names_spec : {M : Type 1} → statement M
 display_names_spec =
@@ -36,7 +34,7 @@ display_names_spec =
     (tie.spec
     invariant-loop
     decreases-loop
-    (λ c. (c.before.requires, refl))
+    (λ c. (c.requires, refl))
     (λ c κs. omega arith)
     returns
     (λ c. omega arith)
@@ -44,4 +42,4 @@ display_names_spec =
     (λ c. omega arith)
     loop-again
     (λ c κs. search rules)
-    (λ c. c.none.ensures ∙ sym (first-end _ _ _ _ (omega arith)) ∙ c.before.before.loop-left.invariant.1))
+    (λ c. c.none.ensures ∙ sym (first-end _ _ _ _ (omega arith)) ∙ c.loop-left.invariant.1))

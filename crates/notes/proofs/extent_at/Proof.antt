@@ -8,8 +8,8 @@ use Rattle.notes.proofs.extent_at.Tie as tie
 
 returns : tie.Need-returns
 returns c =
-    let a = c.before.before.before.before.args in
-    c.read_name-read.ensures.0 ∙ ap (extent 255) (c.before.from.ensures ∙ ap (λ n. drop n a.cache.now) c.before.before.u32_at-at.ensures)
+    let a = c.args in
+    c.read_name-read.ensures.0 ∙ ap (extent 255) (c.from.ensures ∙ ap (λ n. drop n a.cache.now) c.u32_at-at.ensures)
 
 pub extent_at_spec : {M : Type 1} → statement M
 extent_at_spec =

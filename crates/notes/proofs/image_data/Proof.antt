@@ -14,46 +14,42 @@ use Rattle.notes.proofs.image_data.Statement.{statement}
 use Rattle.notes.proofs.image_data.Tie as tie
 
 -- where the field leads
-leads : (c : tie.After-u32_at-data) → let a = c.before.before.args in c.u32_at-data.result ≡ be 4 a.cache.now a.field
+leads : (c : tie.After-u32_at-data) → let a = c.args in c.u32_at-data.result ≡ be 4 a.cache.now a.field
 leads c = c.u32_at-data.ensures
 
-real : (c : tie.Else-data-eq0) → let a = c.before.before.before.args in be 4 a.cache.now a.field ≡ 0 → ⊥
+real : (c : tie.Else-data-eq0) → let a = c.args in be 4 a.cache.now a.field ≡ 0 → ⊥
 real c z = c.if-data-eq0.false (leads c.before ∙ z)
 
 -- the image data keeps rule 22, and its parts are judged
 judged : (c : tie.Else-cache-data)
-    → let a = c.before.before.before.before.args in
-    let d = c.before.before.u32_at-data.result in image_data_fault a.cache.now a.field ≡ (pixel_data_fault a.cache.now d or_else meta_data_fault a.cache.now (d + 4))
+    → let a = c.args in
+    let d = c.u32_at-data.result in image_data_fault a.cache.now a.field ≡ (pixel_data_fault a.cache.now d or_else meta_data_fault a.cache.now (d + 4))
 unfolding image_data_fault
 judged c =
-    let e = c.before in
-    let a = e.before.before.before.args in
-    let inside = le-leb (be 4 a.cache.now a.field + 8) (length a.cache.now) (omega (arith, leads e.before, c.if-cache-data.false)) in
-    rw (leads e.before) (part-inside (real e) _ _ _ inside)
+    let a = c.args in
+    let inside = le-leb (be 4 a.cache.now a.field + 8) (length a.cache.now) (omega (arith, leads c.before.before, c.if-cache-data.false)) in
+    rw (leads c.before.before) (part-inside (real c.before) _ _ _ inside)
 
 returns : tie.Need-returns-then-data-eq0
 unfolding image_data_fault
-returns c = c.none.ensures ∙ sym (part-absent _ (sym (leads c.before.before) ∙ c.before.if-data-eq0.true))
+returns c = c.none.ensures ∙ sym (part-absent _ (sym (leads c.before.before) ∙ c.if-data-eq0.true))
 
 returns-2 : tie.Need-returns-then-cache-data
 unfolding image_data_fault
 returns-2 c =
-    let e = c.before.before in
-    let a = e.before.before.before.args in
-    let outside = lt-leb (be 4 a.cache.now a.field + 8) (length a.cache.now) (omega (arith, leads e.before, c.before.if-cache-data.true)) in
-    c.broken.ensures ∙ sym (part-outside (real e) _ _ _ outside)
+    let a = c.args in
+    let outside = lt-leb (be 4 a.cache.now a.field + 8) (length a.cache.now) (omega (arith, leads c.before.before.before, c.if-cache-data.true)) in
+    c.broken.ensures ∙ sym (part-outside (real c.before.before) _ _ _ outside)
 
 returns-3 : tie.Need-returns-then-pixels-ne0
 returns-3 c =
-    let pixels = c.before.before in
-    let first = pixels.pixel_data-pixels.ensures in
-    first ∙ sym (judged pixels.before ∙ or_else-first _ _ (rw first at c.if-pixels-ne0.true))
+    let first = c.pixel_data-pixels.ensures in
+    first ∙ sym (judged c.before.before.before ∙ or_else-first _ _ (rw first at c.if-pixels-ne0.true))
 
 returns-4 : tie.Need-returns
 returns-4 c =
-    let pixels = c.before.before.before in
-    let first = pixels.pixel_data-pixels.ensures in
-    c.meta_data.ensures ∙ sym (judged pixels.before ∙ or_else-next _ _ (rw first at c.before.if-pixels-ne0.false))
+    let first = c.pixel_data-pixels.ensures in
+    c.meta_data.ensures ∙ sym (judged c.before.before.before.before ∙ or_else-next _ _ (rw first at c.if-pixels-ne0.false))
 
 pub image_data_spec : {M : Type 1} → statement M
 image_data_spec =
@@ -69,5 +65,5 @@ image_data_spec =
     (λ c κs. omega (arith, c.if-cache-data.false))
     returns-3
     (λ c. search rules)
-    (λ c κs. omega (arith, c.before.before.before.if-cache-data.false))
+    (λ c κs. omega (arith, c.if-cache-data.false))
     returns-4)

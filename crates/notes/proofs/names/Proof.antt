@@ -14,38 +14,34 @@ use Rattle.notes.proofs.names.Statement.{statement}
 use Rattle.notes.proofs.names.Tie as tie
 
 -- where the field leads
-leads : (c : tie.After-u32_at-at) → let a = c.before.before.args in c.u32_at-at.result ≡ be 4 a.cache.now a.field
+leads : (c : tie.After-u32_at-at) → let a = c.args in c.u32_at-at.result ≡ be 4 a.cache.now a.field
 leads c = c.u32_at-at.ensures
 
-real : (c : tie.Else-at-eq0) → let a = c.before.before.before.args in be 4 a.cache.now a.field ≡ 0 → ⊥
+real : (c : tie.Else-at-eq0) → let a = c.args in be 4 a.cache.now a.field ≡ 0 → ⊥
 real c z = c.if-at-eq0.false (leads c.before ∙ z)
 
 -- the list keeps rule 22, and so lies inside
-kept : (c : tie.Else-not-valid_entries) → let a = c.before.before.before.before.before.args in valid_entries a.cache.now c.before.before.before.u32_at-at.result 8 ≡ true
-kept c = sym c.before.valid_entries.ensures ∙ not-false _ c.if-not-valid_entries.false
+kept : (c : tie.Else-not-valid_entries) → let a = c.args in valid_entries a.cache.now c.u32_at-at.result 8 ≡ true
+kept c = sym c.valid_entries.ensures ∙ not-false _ c.if-not-valid_entries.false
 
 ends : (c : tie.Else-not-valid_entries)
-    → let a = c.before.before.before.before.before.args in
-    let p = c.before.before.before.u32_at-at.result in p + 4 + 8 * be 4 a.cache.now p ≤ length a.cache.now
+    → let a = c.args in
+    let p = c.u32_at-at.result in p + 4 + 8 * be 4 a.cache.now p ≤ length a.cache.now
 ends c = list-ends _ _ 8 ((and-eq-true_iff _ _).0 (kept c)).0
 
 returns : tie.Need-returns-then-at-eq0
 unfolding names_fault
-returns c = c.none.ensures ∙ sym (part-absent _ (sym (leads c.before.before) ∙ c.before.if-at-eq0.true))
+returns c = c.none.ensures ∙ sym (part-absent _ (sym (leads c.before.before) ∙ c.if-at-eq0.true))
 
 returns-2 : tie.Need-returns-then-not-valid_entries
 unfolding names_fault
 returns-2 c =
-    let judged = c.before.before in
-    let e = judged.before in
-    c.broken.ensures ∙ sym (part-outside (real e) _ _ _ (rw (leads e.before) at (sym judged.valid_entries.ensures ∙ not-true _ c.before.if-not-valid_entries.true)))
+    c.broken.ensures ∙ sym (part-outside (real c.before.before.before) _ _ _ (rw (leads c.before.before.before.before) at (sym c.valid_entries.ensures ∙ not-true _ c.if-not-valid_entries.true)))
 
 returns-3 : tie.Need-returns
 unfolding names_fault
 returns-3 c =
-    let list = c.before.before in
-    let e = list.before.before in
-    c.display_names.ensures ∙ rw (c.before.u32_at.ensures, leads e.before) (sym (part-inside (real e) _ _ _ (rw (leads e.before) at (kept list))))
+    c.display_names.ensures ∙ rw (c.u32_at.ensures, leads c.before.before.before.before.before) (sym (part-inside (real c.before.before.before.before) _ _ _ (rw (leads c.before.before.before.before.before) at (kept c.before.before))))
 
 pub names_spec : {M : Type 1} → statement M
 names_spec =

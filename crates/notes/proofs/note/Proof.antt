@@ -11,14 +11,14 @@ use Rattle.notes.proofs.note.Tie as tie
 returns : tie.Need-returns-in_default
 unfolding note_fault
 returns c =
-    let read = c.before.before.extent_at.ensures in
-    c.broken.ensures ∙ sym (unless-broken _ _ _ (ap is_whole (sym read) ∙ tag-not-whole _ c.before.in-Whole.keys2))
+    let read = c.extent_at.ensures in
+    c.broken.ensures ∙ sym (unless-broken _ _ _ (ap is_whole (sym read) ∙ tag-not-whole _ c.in-Whole.keys2))
 
 returns-2 : tie.Need-returns
 unfolding note_fault
 returns-2 c =
-    let read = c.before.before.before.extent_at.ensures in
-    c.none.ensures ∙ sym (unless-kept _ _ _ (ap is_whole (sym read) ∙ tag-whole _ c.before.before.in-Whole.keys1))
+    let read = c.extent_at.ensures in
+    c.none.ensures ∙ sym (unless-kept _ _ _ (ap is_whole (sym read) ∙ tag-whole _ c.in-Whole.keys1))
 
 pub note_spec : {M : Type 1} → statement M
 note_spec =

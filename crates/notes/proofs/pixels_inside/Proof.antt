@@ -10,12 +10,12 @@ use Rattle.notes.proofs.pixels_inside.Tie as tie
 
 returns : tie.Need-returns-then-cache-at
 returns c =
-    let a = c.before.before.args in
+    let a = c.args in
     let outside : length a.cache.now < a.at + 8 = omega arith in
     simp (lt-leb _ _ outside)
 
 returns-2 : tie.Need-returns
-returns-2 c = simp (le-leb _ _ c.before.if-cache-at.false, c.u32_at-pixels.ensures)
+returns-2 c = simp (le-leb _ _ c.if-cache-at.false, c.u32_at-pixels.ensures)
 
 pub pixels_inside_spec : {M : Type 1} → statement M
 pixels_inside_spec =

@@ -11,29 +11,25 @@ use Rattle.notes.proofs.points.Statement.{statement}
 use Rattle.notes.proofs.points.Tie as tie
 
 -- where the field leads
-leads : (c : tie.After-u32_at-at) → let a = c.before.before.args in c.u32_at-at.result ≡ be 4 a.cache.now a.field
+leads : (c : tie.After-u32_at-at) → let a = c.args in c.u32_at-at.result ≡ be 4 a.cache.now a.field
 leads c = c.u32_at-at.ensures
 
-real : (c : tie.Else-at-eq0) → let a = c.before.before.before.args in be 4 a.cache.now a.field ≡ 0 → ⊥
+real : (c : tie.Else-at-eq0) → let a = c.args in be 4 a.cache.now a.field ≡ 0 → ⊥
 real c z = c.if-at-eq0.false (leads c.before ∙ z)
 
 returns : tie.Need-returns-then-at-eq0
 unfolding points_fault
-returns c = c.none.ensures ∙ sym (part-absent _ (sym (leads c.before.before) ∙ c.before.if-at-eq0.true))
+returns c = c.none.ensures ∙ sym (part-absent _ (sym (leads c.before.before) ∙ c.if-at-eq0.true))
 
 returns-2 : tie.Need-returns-then-not-valid_entries
 unfolding points_fault
 returns-2 c =
-    let judged = c.before.before in
-    let e = judged.before in
-    c.broken.ensures ∙ sym (part-there _ (real e) ∙ unless-broken _ _ _ (rw (leads e.before) at (sym judged.valid_entries.ensures ∙ not-true _ c.before.if-not-valid_entries.true)))
+    c.broken.ensures ∙ sym (part-there _ (real c.before.before.before) ∙ unless-broken _ _ _ (rw (leads c.before.before.before.before) at (sym c.valid_entries.ensures ∙ not-true _ c.if-not-valid_entries.true)))
 
 returns-3 : tie.Need-returns
 unfolding points_fault
 returns-3 c =
-    let judged = c.before.before in
-    let e = judged.before in
-    c.none-2.ensures ∙ sym (part-there _ (real e) ∙ unless-kept _ _ _ (rw (leads e.before) at (sym judged.valid_entries.ensures ∙ not-false _ c.before.if-not-valid_entries.false)))
+    c.none-2.ensures ∙ sym (part-there _ (real c.before.before.before) ∙ unless-kept _ _ _ (rw (leads c.before.before.before.before) at (sym c.valid_entries.ensures ∙ not-false _ c.if-not-valid_entries.false)))
 
 pub points_spec : {M : Type 1} → statement M
 points_spec =

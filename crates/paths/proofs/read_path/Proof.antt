@@ -32,39 +32,35 @@ loop-holds c = record {
 
 returns : tie.Need-returns-then-byte-eq0 invariant-loop decreases-loop
 returns c =
-    let l = c.before.before.before.before.before in
-    let t = l.before.before.args.part.now in
-    let stop = c.before.before.if-byte-eq0.true in
-    let none = none_left 1023 t l.loop-i.i stop in (
-      c.ended.ensures ∙ extent-ended 1023 t l.loop-i.i l.loop-i.invariant.passed (omega arith) (omega arith) stop,
-      at-end l.loop-i.invariant none c.before.valid_to-valid_segments.ensures,
+    let t = c.args.part.now in
+    let stop = c.if-byte-eq0.true in
+    let none = none_left 1023 t c.loop-i.i stop in (
+      c.ended.ensures ∙ extent-ended 1023 t c.loop-i.i c.loop-i.invariant.passed (omega arith) (omega arith) stop,
+      at-end c.loop-i.invariant none c.valid_to-valid_segments.ensures,
     )
 
 returns-2 : tie.Need-returns-then-i-eq1023 invariant-loop decreases-loop
 returns-2 c =
-    let l = c.before.before.before.before.before in
-    let t = l.before.before.args.part.now in
-    let full = c.before.if-i-eq1023.true in (
-      extent-long 1023 t l.loop-i.i l.loop-i.invariant.passed full c.before.before.if-byte-eq0.false,
-      at-end l.loop-i.invariant (none_within 1023 t l.loop-i.i full) c.valid_to.ensures,
+    let t = c.args.part.now in
+    let full = c.if-i-eq1023.true in (
+      extent-long 1023 t c.loop-i.i c.loop-i.invariant.passed full c.if-byte-eq0.false,
+      at-end c.loop-i.invariant (none_within 1023 t c.loop-i.i full) c.valid_to.ensures,
     )
 
 loop-again : tie.Need-loop-i-preserved invariant-loop decreases-loop
 loop-again c =
-    let l = c.before.before.before.before.before in
-    let nz = c.before.before.if-byte-eq0.false in
+    let nz = c.if-byte-eq0.false in
     ⊎_elim
-    (λ w. same-reading w.2 w.3 (next-slash l.loop-i.invariant (omega arith) (omega arith) nz w.0.taken w.1.ensures))
-    (λ w. same-reading w.1 w.2 (next-byte l.loop-i.invariant (omega arith) (omega arith) nz w.0.left))
+    (λ w. same-reading w.2 w.3 (next-slash c.loop-i.invariant (omega arith) (omega arith) nz w.0.true w.1.ensures))
+    (λ w. same-reading w.1 w.2 (next-byte c.loop-i.invariant (omega arith) (omega arith) nz w.0.left))
     c.if-byte-eq47.branch
 
 returns-3 : tie.Need-returns invariant-loop decreases-loop
 returns-3 c =
-    let l = c.before.before in
-    let t = l.before.before.args.part.now in
-    let end = c.before.loop-i-test.false in
-    let none = none_left 1023 t l.loop-i.i (get_or-eq_default t 0 end) in
-    (extent-cut 1023 t l.loop-i.i l.loop-i.invariant.passed (omega arith) end, at-end l.loop-i.invariant none c.valid_to-2.ensures)
+    let t = c.args.part.now in
+    let end = c.loop-i-test.false in
+    let none = none_left 1023 t c.loop-i.i (get_or-eq_default t 0 end) in
+    (extent-cut 1023 t c.loop-i.i c.loop-i.invariant.passed (omega arith) end, at-end c.loop-i.invariant none c.valid_to-2.ensures)
 
 pub read_path_spec : {M : Type 1} → statement M
 read_path_spec =

@@ -32,17 +32,17 @@ returns : tie.Need-returns-in-0
 returns c = rw (tested, c.in-0.keys1)
 
 returns-2 : tie.Need-returns-in-1
-returns-2 c = rw (tested, c.before.in-0.keys2)
+returns-2 c = rw (tested, c.in-0.keys2)
 
 returns-3 : tie.Need-returns-then-segment-ne46
-returns-3 c = rw (tested, c.before.before.in-0.keys3, ne_eqb _ _ c.if-segment-ne46.true)
+returns-3 c = rw (tested, c.in-0.keys3, ne_eqb _ _ c.if-segment-ne46.true)
 
 returns-4 : tie.Need-returns-else-segment-ne46
-returns-4 c = rw (tested, c.before.before.before.in-0.keys3, eq-eqb _ _ c.before.if-segment-ne46.false)
+returns-4 c = rw (tested, c.in-0.keys3, eq-eqb _ _ c.if-segment-ne46.false)
 
 returns-5 : tie.Need-returns-in_default
 returns-5 c =
-    let n = length c.before.args.segment.now in
+    let n = length c.args.segment.now in
     let more : n ≡ suc (suc (suc (n - 3))) = omega arith in
     rw (tested, more)
 

@@ -5,7 +5,7 @@ use Rattle.paths.proofs.valid_to.Statement.{statement}
 use Rattle.paths.proofs.valid_to.Tie as tie
 
 returns : tie.Need-returns-then-before
-returns c = c.valid_segment.ensures ∙ rw c.before.before.if-before.true
+returns c = c.valid_segment.ensures ∙ rw c.if-before.true
 
 pub valid_to_spec : {M : Type 1} → statement M
 valid_to_spec =

@@ -23,20 +23,17 @@ decreases-loop cache at m size scale words left₀ here₀ left here = left
 
 fits-requires : tie.Need-fits-requires invariant-loop decreases-loop
 fits-requires c κs =
-    let l = c.before in
-    let first = (first-none _ _ _ _ (l.loop-left.left - 1) (omega arith) l.loop-left.invariant.1).0 in
-    (omega arith, (((and-eq-true_iff _ _).0 (unless-none _ _ _ first)).0, l.before.before.before.requires.1.1))
+    let first = (first-none _ _ _ _ (c.loop-left.left - 1) (omega arith) c.loop-left.invariant.1).0 in
+    (omega arith, (((and-eq-true_iff _ _).0 (unless-none _ _ _ first)).0, c.requires.1.1))
 
 returns : tie.Need-returns-then-fits invariant-loop decreases-loop
 returns c =
-    let l = c.before.before.before in
-    sym (image-here _ _ _ (omega arith) (sym c.before.fits2.ensures ∙ c.if-fits.true)) ∙ l.loop-left.invariant.2
+    sym (image-here _ _ _ (omega arith) (sym c.fits2.ensures ∙ c.if-fits.true)) ∙ c.loop-left.invariant.2
 
 loop-again : tie.Need-loop-left-preserved invariant-loop decreases-loop
 loop-again c =
-    let l = c.before.before.before in
-    let rest = (first-none _ _ _ _ (l.loop-left.left - 1) (omega arith) l.loop-left.invariant.1).1 in
-    (omega arith, rest, sym (image-later _ _ _ (l.loop-left.left - 1) (omega arith) (sym c.before.fits2.ensures ∙ c.if-fits.false)) ∙ l.loop-left.invariant.2)
+    let rest = (first-none _ _ _ _ (c.loop-left.left - 1) (omega arith) c.loop-left.invariant.1).1 in
+    (omega arith, rest, sym (image-later _ _ _ (c.loop-left.left - 1) (omega arith) (sym c.fits2.ensures ∙ c.if-fits.false)) ∙ c.loop-left.invariant.2)
 
 pub first_image_spec : {M : Type 1} → statement M
 first_image_spec =
@@ -44,11 +41,11 @@ first_image_spec =
     (tie.spec
     invariant-loop
     decreases-loop
-    (λ c. (omega arith, c.before.before.requires.1.0, refl))
+    (λ c. (omega arith, c.requires.1.0, refl))
     fits-requires
     returns
     (λ c. omega arith)
     (λ c. omega arith)
     (λ c. omega arith)
     loop-again
-    (λ c. sym (image-none _ _ _ (omega arith)) ∙ c.before.loop-left.invariant.2))
+    (λ c. sym (image-none _ _ _ (omega arith)) ∙ c.loop-left.invariant.2))

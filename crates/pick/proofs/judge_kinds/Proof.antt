@@ -19,14 +19,12 @@ decreases-loop words n left₀ at₀ left at = left
 
 returns : tie.Need-returns-then-words-at-gt2 invariant-loop decreases-loop
 returns c =
-    let l = c.before.before.before in
     let broken = unless-broken _ 32 _ (lt-leb _ 2 c.if-words-at-gt2.true) in
-    sym (first-stop _ _ _ _ (omega arith) (rw broken (λ z. omega arith)) ∙ broken) ∙ l.loop-left.invariant.1
+    sym (first-stop _ _ _ _ (omega arith) (rw broken (λ z. omega arith)) ∙ broken) ∙ c.loop-left.invariant.1
 
 loop-again : tie.Need-loop-left-preserved invariant-loop decreases-loop
 loop-again c =
-    let l = c.before.before.before in
-    (omega arith, sym (first-go-on _ _ _ _ (l.loop-left.left - 1) (omega arith) (rw (le-leb _ 2 c.if-words-at-gt2.false))) ∙ l.loop-left.invariant.1)
+    (omega arith, sym (first-go-on _ _ _ _ (c.loop-left.left - 1) (omega arith) (rw (le-leb _ 2 c.if-words-at-gt2.false))) ∙ c.loop-left.invariant.1)
 
 pub judge_kinds_spec : {M : Type 1} → statement M
 judge_kinds_spec =
@@ -42,4 +40,4 @@ judge_kinds_spec =
     (λ c. omega arith)
     (λ c. omega arith)
     loop-again
-    (λ c. sym (first-end _ _ _ _ (omega arith)) ∙ c.before.loop-left.invariant.1))
+    (λ c. sym (first-end _ _ _ _ (omega arith)) ∙ c.loop-left.invariant.1))

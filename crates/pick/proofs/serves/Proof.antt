@@ -8,7 +8,7 @@ use Rattle.pick.proofs.serves.Tie as tie
 
 returns : tie.Need-returns-then-d-scale
 unfolding serves
-returns c = c.serves_size.ensures ∙ rw (eq-eqb _ _ c.before.if-d-scale.true)
+returns c = c.serves_size.ensures ∙ rw (eq-eqb _ _ c.if-d-scale.true)
 
 returns-2 : tie.Need-returns-else-d-scale
 unfolding serves

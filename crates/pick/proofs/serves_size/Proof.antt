@@ -8,20 +8,19 @@ use Rattle.pick.proofs.serves_size.Statement.{statement}
 use Rattle.pick.proofs.serves_size.Tie as tie
 
 returns : tie.Need-returns-then-d-eq0
-returns c = rw c.before.if-d-eq0.true
+returns c = rw c.if-d-eq0.true
 
 returns-2 : tie.Need-returns-then-d-size
-returns-2 c = rw (c.before.before.before.if-d-eq1.true, le-leb _ _ c.before.if-d-size.true)
+returns-2 c = rw (c.if-d-eq1.true, le-leb _ _ c.if-d-size.true)
 
 returns-3 : tie.Need-returns-else-d-size
-returns-3 c = rw (c.before.before.if-d-eq1.true, lt-leb _ _ c.if-d-size.false)
+returns-3 c = rw (c.if-d-eq1.true, lt-leb _ _ c.if-d-size.false)
 
 returns-4 : tie.Need-returns-else-d-eq1
 returns-4 c =
-    let others = c.before.before in
-    let d = others.before.before.before.before.args.d in
+    let d = c.args.d in
     let large : d.kind ≡ suc (suc (d.kind - 2)) = omega arith in
-    rw (large, c.before.distance.ensures)
+    rw (large, c.distance.ensures)
 
 pub serves_size_spec : {M : Type 1} → statement M
 serves_size_spec = tie.close (tie.spec (λ c κs. search rules) returns returns-2 returns-3 returns-4)

@@ -16,21 +16,18 @@ decreases-loop cache n m at valid left₀ here₀ left here = left
 
 valid-image-requires : tie.Need-valid_image-requires invariant-loop decreases-loop
 valid-image-requires c κs =
-    let words = c.before.before in
-    let pre = words.before.before.requires in
-    ((omega (arith, pre), words.valid_words-valid.ensures ∙ ap valid_words pre.1), omega arith)
+    let pre = c.requires in
+    ((omega (arith, pre), c.valid_words-valid.ensures ∙ ap valid_words pre.1), omega arith)
 
 returns : tie.Need-returns-then-not-valid_image invariant-loop decreases-loop
 returns c =
-    let l = c.before.before.before in
-    let broken = unless-broken _ 11 _ (sym c.before.valid_image.ensures ∙ not-true _ c.if-not-valid_image.true) in
-    sym (first-stop _ _ _ _ (omega arith) (rw broken (λ z. omega arith)) ∙ broken) ∙ l.loop-left.invariant.1
+    let broken = unless-broken _ 11 _ (sym c.valid_image.ensures ∙ not-true _ c.if-not-valid_image.true) in
+    sym (first-stop _ _ _ _ (omega arith) (rw broken (λ z. omega arith)) ∙ broken) ∙ c.loop-left.invariant.1
 
 loop-again : tie.Need-loop-left-preserved invariant-loop decreases-loop
 loop-again c =
-    let l = c.before.before.before in
-    let kept = sym c.before.valid_image.ensures ∙ not-false _ c.if-not-valid_image.false in
-    (omega arith, sym (first-go-on _ _ _ _ (l.loop-left.left - 1) (omega arith) (rw kept)) ∙ l.loop-left.invariant.1)
+    let kept = sym c.valid_image.ensures ∙ not-false _ c.if-not-valid_image.false in
+    (omega arith, sym (first-go-on _ _ _ _ (c.loop-left.left - 1) (omega arith) (rw kept)) ∙ c.loop-left.invariant.1)
 
 pub images_spec : {M : Type 1} → statement M
 images_spec =
@@ -46,4 +43,4 @@ images_spec =
     (λ c. omega arith)
     (λ c. omega arith)
     loop-again
-    (λ c. sym (first-end _ _ _ _ (omega arith)) ∙ c.before.loop-left.invariant.1))
+    (λ c. sym (first-end _ _ _ _ (omega arith)) ∙ c.loop-left.invariant.1))

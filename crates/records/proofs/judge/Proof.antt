@@ -8,13 +8,13 @@ use Rattle.records.proofs.judge.Tie as tie
 
 returns : tie.Need-returns-then-fault-ne0
 returns c =
-    let name = c.before.before.judge_name-fault in
+    let name = c.judge_name-fault in
     name.ensures ∙ sym (record-misnamed _ _ _ (λ e. c.if-fault-ne0.true (same_number name.ensures ∙ e)))
 
 returns-2 : tie.Need-returns
 returns-2 c =
-    let name = c.before.before.before.judge_name-fault in
-    c.judge_images.ensures ∙ sym (record-named _ _ _ (same_number (sym name.ensures) ∙ c.before.if-fault-ne0.false))
+    let name = c.judge_name-fault in
+    c.judge_images.ensures ∙ sym (record-named _ _ _ (same_number (sym name.ensures) ∙ c.if-fault-ne0.false))
 
 pub judge_spec : {M : Type 1} → statement M
 judge_spec = tie.close (tie.spec (λ c κs. search rules) returns (λ c κs. search rules) returns-2)

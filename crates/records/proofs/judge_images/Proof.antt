@@ -14,14 +14,14 @@ use Rattle.records.proofs.judge_images.Statement.{statement}
 use Rattle.records.proofs.judge_images.Tie as tie
 
 listed : (c : tie.After-valid_image_list)
-    → let a = c.before.before.before.args in c.valid_image_list.result ≡ valid_image_list a.cache.now (images_at a.cache.now a.«record»)
-listed c = c.valid_image_list.ensures ∙ rw c.before.u32_at-at.ensures
+    → let a = c.args in c.valid_image_list.result ≡ valid_image_list a.cache.now (images_at a.cache.now a.«record»)
+listed c = c.valid_image_list.ensures ∙ rw c.u32_at-at.ensures
 
 ends-inside : (c : tie.Else-not-valid_image_list)
-    → let s = c.before.before.before.before.args.cache.now in
-    let at = c.before.before.u32_at-at.result in
+    → let s = c.args.cache.now in
+    let at = c.u32_at-at.result in
     at + 4 + 8 * be 4 s at ≤ length s
-ends-inside c = list-ends _ _ 8 ((and-eq-true_iff _ _).0 (sym c.before.valid_image_list.ensures ∙ not-false _ c.if-not-valid_image_list.false)).0
+ends-inside c = list-ends _ _ 8 ((and-eq-true_iff _ _).0 (sym c.valid_image_list.ensures ∙ not-false _ c.if-not-valid_image_list.false)).0
 
 returns : tie.Need-returns-then-not-valid_image_list
 returns c = sym (list-broken _ _ (sym (listed c.before) ∙ not-true _ c.if-not-valid_image_list.true))
@@ -31,18 +31,16 @@ u32-at-requires-2 c κs = omega (arith, ends-inside c)
 
 images-requires : tie.Need-images-requires
 images-requires c κs =
-    let start = c.before.before.before.before.before in
-    let count = same-directories start.requires.0 in (
-      omega (arith, count, (header-valid _ start.requires.0.header).directories-few),
+    let count = same-directories c.requires.0 in (
+      omega (arith, count, (header-valid _ c.requires.0.header).directories-few),
       count,
       omega (arith, ends-inside c.before, c.u32_at-m.ensures),
     )
 
 returns-2 : tie.Need-returns
 returns-2 c =
-    let valid = c.before.before in
-    c.images.ensures ∙ rw (c.before.u32_at-m.ensures, valid.before.before.u32_at-at.ensures)
-    (sym (list-kept _ _ (sym (listed valid.before) ∙ not-false _ valid.if-not-valid_image_list.false)))
+    c.images.ensures ∙ rw (c.u32_at-m.ensures, c.u32_at-at.ensures)
+    (sym (list-kept _ _ (sym (listed c.before.before.before) ∙ not-false _ c.if-not-valid_image_list.false)))
 
 pub judge_images_spec : {M : Type 1} → statement M
 judge_images_spec =

@@ -16,44 +16,37 @@ use Rattle.records.proofs.judge_name.Tie as tie
 
 -- the call's start, from the place where the name is read, and from the place where the bucket is
 -- compared
-abbrev start : tie.After-read_name-name → tie.Start
-start c = c.before.before.before.before
-
-abbrev start-of-all : tie.After-struct_known-2-1 → tie.Start
-start-of-all c = start c.before.before.before.before
-
 counted : (c : tie.Start) → c.args.t.buckets ≡ buckets c.args.cache.now
 counted c = same-buckets c.requires.0
 
 named : (c : tie.After-read_name-name)
-    → let a = (start c).args in c.read_name-name.result.extent ≡ name_extent a.cache.now a.«record»
-named c = c.read_name-name.ensures.0 ∙ ap (extent 255) c.before.name_part.ensures
+    → let a = c.args in c.read_name-name.result.extent ≡ name_extent a.cache.now a.«record»
+named c = c.read_name-name.ensures.0 ∙ ap (extent 255) c.name_part.ensures
 
 -- a name that is whole was read to its end
 hashed : (c : tie.After-read_name-name)
-    → let a = (start c).args in
+    → let a = c.args in
     is_whole (name_extent a.cache.now a.«record») ≡ true → c.read_name-name.result.hash ≡ hash (name_of a.cache.now a.«record»)
-hashed c valid = c.read_name-name.ensures.1 ∙ ap hash (whole-within 255 c.before.name_part.ensures valid)
+hashed c valid = c.read_name-name.ensures.1 ∙ ap hash (whole-within 255 c.name_part.ensures valid)
 
-whole : (c : tie.After-struct_known-2-1) → is_whole (name_extent (start-of-all c).args.cache.now (start-of-all c).args.«record») ≡ true
-whole c = ap is_whole (sym (named c.before.before.before.before)) ∙ tag-whole _ c.before.before.before.in-Whole.keys1
+whole : (c : tie.After-struct_known-2-1) → is_whole (name_extent c.args.cache.now c.args.«record») ≡ true
+whole c = ap is_whole (sym (named c.before.before.before.before)) ∙ tag-whole _ c.in-Whole.keys1
 
 placed : (c : tie.After-struct_known-2-1)
-    → let a = (start-of-all c).args in
-    c.before.before.before.before.read_name-name.result.hash % a.t.buckets ≡ bucket_of a.cache.now (name_of a.cache.now a.«record»)
-placed c = let read = c.before.before.before.before in hash-bucket _ _ (hashed read (whole c)) (counted (start-of-all c))
+    → let a = c.args in
+    c.read_name-name.result.hash % a.t.buckets ≡ bucket_of a.cache.now (name_of a.cache.now a.«record»)
+placed c = hash-bucket _ _ (hashed c.before.before.before.before (whole c)) (counted c.before.before.before.before.before.before.before.before)
 
 returns : tie.Need-returns-then-known
-returns c = sym (c.before.before.requires.1.1 c.if-known.true)
+returns c = sym (c.requires.1.1 c.if-known.true)
 
 returns-2 : tie.Need-returns-in_default
 returns-2 c =
-    let read = c.before.before in
-    let broken = ap is_whole (sym (named read)) ∙ tag-not-whole _ c.before.in-Whole.keys2 in
-    c.judge.ensures ∙ ap (λ e. string_fault e 8 ((start read).args.«record» + 4)) (named read) ∙ sym (name-unread _ _ _ broken)
+    let broken = ap is_whole (sym (named c.before.before)) ∙ tag-not-whole _ c.in-Whole.keys2 in
+    c.judge.ensures ∙ ap (λ e. string_fault e 8 (c.args.«record» + 4)) (named c.before.before) ∙ sym (name-unread _ _ _ broken)
 
 rem-if2 : tie.Need-nonzero-rem-if2
-rem-if2 c = rw (counted (start-of-all c)) (header-valid _ (start-of-all c).requires.0.header).buckets-some
+rem-if2 c = rw (counted c) (header-valid _ c.requires.0.header).buckets-some
 
 returns-3 : tie.Need-returns-then-name-t
 returns-3 c = sym (name-foreign _ _ _ (whole c.before) (rw (placed c.before) at c.if-name-t.true))

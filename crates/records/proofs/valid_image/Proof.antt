@@ -26,32 +26,28 @@ decided n i f r p = go (eqb n 0) refl
     go false e = let after = rw e at p.after in rw e (λ h. lt-ltb i n (omega (arith, p)), λ h. le-ltb i n (omega (arith, p)))
 
 placed : (c : tie.After-wrapping_sub_u32)
-    → let a = c.before.before.before.args in
+    → let a = c.args in
     Placed (directories a.cache.now) (be 2 a.cache.now a.at) (be 2 a.cache.now (a.at + 2)) c.wrapping_sub_u32.result
 placed c =
-    let start = c.before.before.before in
-    let word = c.before.first_word-word in
+    let word = c.first_word-word in
     record {
-      few = start.requires.0.0;
+      few = c.requires.0.0;
       flags-fit = word.ensures.1;
-      word_fits = omega (arith, word.ensures.0, word.type-inv);
-      fits = c.wrapping_sub_u32.type-inv;
-      after = ap (λ (w : ValidWords). (c.wrapping_sub_u32.result + w.lowest) % 2 ^ 32) (sym start.requires.0.1) ∙ c.wrapping_sub_u32.ensures ∙ word.ensures.0;
+      word_fits = omega (arith, word.ensures.0, word.type_inv);
+      fits = c.wrapping_sub_u32.type_inv;
+      after = ap (λ (w : ValidWords). (c.wrapping_sub_u32.result + w.lowest) % 2 ^ 32) (sym c.requires.0.1) ∙ c.wrapping_sub_u32.ensures ∙ word.ensures.0;
     }
 
 returns : tie.Need-returns-then-wrapping_sub_u32-valid
 returns c =
-    let sub = c.before.before in
-    let start = sub.before.before.before in
-    let below = rw start.requires.0.1 at c.if-wrapping_sub_u32-valid.true in
-    let flags : sub.before.first_word-word.result % 65536 ≡ be 2 start.args.cache.now (start.args.at + 2) = omega (arith, sub.before.first_word-word.ensures) in
-    rw ((decided _ _ _ _ (placed sub)).0 below, flags)
+    let below = rw c.requires.0.1 at c.if-wrapping_sub_u32-valid.true in
+    let flags : c.first_word-word.result % 65536 ≡ be 2 c.args.cache.now (c.args.at + 2) = omega (arith, c.first_word-word.ensures) in
+    rw ((decided _ _ _ _ (placed c.before.before)).0 below, flags)
 
 returns-2 : tie.Need-returns-else-wrapping_sub_u32-valid
 returns-2 c =
-    let sub = c.before.before in
-    let above = rw sub.before.before.before.requires.0.1 at c.if-wrapping_sub_u32-valid.false in
-    rw ((decided _ _ _ _ (placed sub)).1 above)
+    let above = rw c.requires.0.1 at c.if-wrapping_sub_u32-valid.false in
+    rw ((decided _ _ _ _ (placed c.before.before)).1 above)
 
 pub valid_image_spec : {M : Type 1} → statement M
 valid_image_spec =

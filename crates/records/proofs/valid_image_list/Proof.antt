@@ -7,14 +7,14 @@ use Rattle.records.proofs.valid_image_list.Tie as tie
 
 u32-at-requires : tie.Need-u32_at-requires
 u32-at-requires c κs =
-    let a = c.before.before.before.args in
-    omega (arith, list-ends a.cache.now a.at 8 (sym c.before.list_inside.ensures ∙ c.if-list_inside.true))
+    let a = c.args in
+    omega (arith, list-ends a.cache.now a.at 8 (sym c.list_inside.ensures ∙ c.if-list_inside.true))
 
 returns : tie.Need-returns-then-list_inside
-returns c = simp (← c.before.before.list_inside.ensures, c.before.if-list_inside.true, c.u32_at.ensures)
+returns c = simp (← c.list_inside.ensures, c.if-list_inside.true, c.u32_at.ensures)
 
 returns-2 : tie.Need-returns-else-list_inside
-returns-2 c = simp (← c.before.list_inside.ensures, c.if-list_inside.false)
+returns-2 c = simp (← c.list_inside.ensures, c.if-list_inside.false)
 
 pub valid_image_list_spec : {M : Type 1} → statement M
 valid_image_list_spec = tie.close (tie.spec (λ c κs. search rules) u32-at-requires returns returns-2)

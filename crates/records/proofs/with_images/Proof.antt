@@ -9,11 +9,11 @@ use Rattle.format.specs.Laws.Lookup.{found-short, found-enough}
 use Rattle.records.proofs.with_images.Statement.{statement}
 use Rattle.records.proofs.with_images.Tie as tie
 
-list_at : (c : tie.After-u32_at-at) → let a = c.before.before.before.args in c.u32_at-at.result ≡ images_at a.cache.now a.«record»
+list_at : (c : tie.After-u32_at-at) → let a = c.args in c.u32_at-at.result ≡ images_at a.cache.now a.«record»
 list_at c = c.u32_at-at.ensures
 
-images-are : (c : tie.After-u32_at-images) → let a = c.before.before.before.before.args in c.u32_at-images.result ≡ images a.cache.now a.«record»
-images-are c = c.u32_at-images.ensures ∙ ap (be 4 c.before.before.before.before.args.cache.now) (list_at c.before)
+images-are : (c : tie.After-u32_at-images) → let a = c.args in c.u32_at-images.result ≡ images a.cache.now a.«record»
+images-are c = c.u32_at-images.ensures ∙ ap (be 4 c.args.cache.now) (list_at c.before)
 
 returns : tie.Need-returns-then-words-images
 unfolding answer_words
@@ -21,17 +21,14 @@ returns c = (rw (images-are c.before, list_at c.before.before) (sym (found-short
 
 write-images-requires : tie.Need-write_images-requires
 write-images-requires c κs =
-    let counted = c.before.before in
-    let start = counted.before.before.before.before in
-    (omega (arith, images-are counted, list_at counted.before, start.requires.1), omega (arith, c.before.if-words-images.false))
+    (omega (arith, images-are c.before.before, list_at c.before.before.before, c.requires.1), omega (arith, c.if-words-images.false))
 
 returns-2 : tie.Need-returns
 unfolding answer_words
 returns-2 c =
-    let room = c.before.before.before.before in
-    let list = room.before in (
-      rw (images-are list) (sym (found-enough _ _ _ _ (rw (← (images-are list)) room.if-words-images.false))),
-      c.before.before.write_images.ensures ∙ rw (list_at list.before),
+    (
+      rw (images-are c.before.before.before.before.before) (sym (found-enough _ _ _ _ (rw (← (images-are c.before.before.before.before.before)) c.if-words-images.false))),
+      c.write_images.ensures ∙ rw (list_at c.before.before.before.before.before.before),
     )
 
 pub with_images_spec : {M : Type 1} → statement M

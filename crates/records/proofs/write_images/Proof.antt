@@ -21,20 +21,19 @@ loop-holds c = (omega arith, refl, rw sub_self)
 
 loop-again : tie.Need-loop-i-preserved invariant-loop decreases-loop
 loop-again c =
-    let l = c.before.before.before in
-    let a = l.before.before.before.args in
-    let i = l.loop-i.i in
+    let a = c.args in
+    let i = c.loop-i.i in
     let words-after : 2 * (i - 1) + 2 ≡ 2 * i = omega arith in
     let image-after : a.at + 8 * (i - 1) + 8 ≡ a.at + 8 * i = omega arith in
     let one-image = words-cons a.cache.now (a.m - (i - 1)) (a.at + 8 * (i - 1)) (a.m - i) (omega arith) in (
       omega arith,
-      simp length-set l.loop-i.invariant.1,
-      two-stored l.loop-i.words (2 * (i - 1)) _ _ (omega arith)
-          ∙ rw (words-after, l.loop-i.invariant.2, one-image, image-after, c.before.first_word.ensures.0, c.u32_at.ensures),
+      simp length-set c.loop-i.invariant.1,
+      two-stored c.loop-i.words (2 * (i - 1)) _ _ (omega arith)
+          ∙ rw (words-after, c.loop-i.invariant.2, one-image, image-after, c.first_word.ensures.0, c.u32_at.ensures),
     )
 
 returns : tie.Need-returns invariant-loop decreases-loop
-returns c = let first : c.before.loop-i.i ≡ 0 = omega arith in rw (first, sub-zero, add-zero) at c.before.loop-i.invariant.2
+returns c = let first : c.loop-i.i ≡ 0 = omega arith in rw (first, sub-zero, add-zero) at c.loop-i.invariant.2
 
 pub write_images_spec : {M : Type 1} → statement M
 write_images_spec =

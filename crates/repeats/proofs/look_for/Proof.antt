@@ -31,31 +31,23 @@ loop-holds c = (omega arith, refl, λ before known. looked-none)
 
 read-record-requires : tie.Need-read_record-next-requires invariant-loop decreases-loop
 read-record-requires c κs =
-    let l = c.before in
-    rw l.loop-i.invariant.1 (l.before.before.before.requires.0 l.loop-i.i c.loop-i-test.true)
+    rw c.loop-i.invariant.1 (c.requires.0 c.loop-i.i c.loop-i-test.true)
 
 returns : tie.Need-returns-then-holds invariant-loop decreases-loop
 returns c = λ before known.
-    let asked = c.before in
-    let next = asked.before in
-    let l = next.before.before in
-    let is = name-read _ _ l.loop-i.i (ahead-next _ _ _ l.loop-i.invariant.1 next.read_record-next.ensures.0) next.read_record-next.ensures.1 in
-    looked-found (l.loop-i.invariant.2 before known) is (asked.holds.ensures before known) c.if-holds.true (omega arith)
+    let is = name-read _ _ c.loop-i.i (ahead-next _ _ _ c.loop-i.invariant.1 c.read_record-next.ensures.0) c.read_record-next.ensures.1 in
+    looked-found (c.loop-i.invariant.2 before known) is (c.holds.ensures before known) c.if-holds.true (omega arith)
 
 loop-again : tie.Need-loop-i-preserved invariant-loop decreases-loop
 loop-again c =
-    let asked = c.before in
-    let next = asked.before in
-    let l = next.before.before in
-    let there = ahead-next _ _ _ l.loop-i.invariant.1 next.read_record-next.ensures.0 in
-    let is = name-read _ _ l.loop-i.i there next.read_record-next.ensures.1 in
-    (omega arith, there, λ before known. looked-more (l.loop-i.invariant.2 before known) is (asked.holds.ensures before known) c.if-holds.false)
+    let there = ahead-next _ _ _ c.loop-i.invariant.1 c.read_record-next.ensures.0 in
+    let is = name-read _ _ c.loop-i.i there c.read_record-next.ensures.1 in
+    (omega arith, there, λ before known. looked-more (c.loop-i.invariant.2 before known) is (c.holds.ensures before known) c.if-holds.false)
 
 returns-2 : tie.Need-returns invariant-loop decreases-loop
 returns-2 c = λ before known.
-    let l = c.before in
-    let all : l.before.before.before.args.n ≡ l.loop-i.i = omega arith in
-    rw all (l.loop-i.invariant.2 before known)
+    let all : c.args.n ≡ c.loop-i.i = omega arith in
+    rw all (c.loop-i.invariant.2 before known)
 
 pub look_for_spec : {M : Type 1} → statement M
 look_for_spec =

@@ -28,33 +28,25 @@ loop-holds c = (omega arith, refl, refl, taken_none _)
 
 read-record-requires : tie.Need-read_record-next-requires invariant-loop decreases-loop
 read-record-requires c κs =
-    let l = c.before in
-    rw l.loop-i.invariant.2 (l.before.before.before.requires.0 l.loop-i.i c.loop-i-test.true)
+    rw c.loop-i.invariant.2 (c.requires.0 c.loop-i.i c.loop-i-test.true)
 
 returns : tie.Need-returns-then-met invariant-loop decreases-loop
 returns c =
-    let asked = c.before.before.before in
-    let next = asked.before.before in
-    let l = next.before.before in
-    let taken = l.loop-i.invariant.3 in
-    let is = name-read _ _ l.loop-i.i (ahead-next _ _ _ l.loop-i.invariant.2 next.read_record-next.ensures.0) next.read_record-next.ensures.1 in
-    taken-again taken is (asked.met.ensures _ (taken.known refl)) c.if-met.true (omega arith)
+    let taken = c.loop-i.invariant.3 in
+    let is = name-read _ _ c.loop-i.i (ahead-next _ _ _ c.loop-i.invariant.2 c.read_record-next.ensures.0) c.read_record-next.ensures.1 in
+    taken-again taken is (c.met.ensures _ (taken.known refl)) c.if-met.true (omega arith)
 
 loop-again : tie.Need-loop-i-preserved invariant-loop decreases-loop
 loop-again c =
-    let asked = c.before.before.before in
-    let next = asked.before.before in
-    let l = next.before.before in
-    let taken = l.loop-i.invariant.3 in
-    let there = ahead-next _ _ _ l.loop-i.invariant.2 next.read_record-next.ensures.0 in
-    let is = name-read _ _ l.loop-i.i there next.read_record-next.ensures.1 in
-    (omega arith, omega arith, there, taken_more taken is (asked.met.ensures _ (taken.known refl)) c.if-met.false)
+    let taken = c.loop-i.invariant.3 in
+    let there = ahead-next _ _ _ c.loop-i.invariant.2 c.read_record-next.ensures.0 in
+    let is = name-read _ _ c.loop-i.i there c.read_record-next.ensures.1 in
+    (omega arith, omega arith, there, taken_more taken is (c.met.ensures _ (taken.known refl)) c.if-met.false)
 
 returns-2 : tie.Need-returns invariant-loop decreases-loop
 returns-2 c =
-    let l = c.before in
-    let all : l.before.before.before.args.n ≡ l.loop-i.i = omega arith in
-    rw all l.loop-i.invariant.3
+    let all : c.args.n ≡ c.loop-i.i = omega arith in
+    rw all c.loop-i.invariant.3
 
 pub take_in_spec : {M : Type 1} → statement M
 take_in_spec =

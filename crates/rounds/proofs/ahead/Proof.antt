@@ -22,17 +22,15 @@ loop-holds c = (omega arith, refl)
 
 u32-at-requires : tie.Need-u32_at-at-requires invariant-loop decreases-loop
 u32-at-requires c κs =
-    let l = c.before in
-    omega (arith, l.loop-step.invariant.1, l.before.before.requires l.loop-step.step (search rules))
+    omega (arith, c.loop-step.invariant.1, c.requires c.loop-step.step (search rules))
 
 loop-again : tie.Need-loop-step-preserved invariant-loop decreases-loop
-loop-again c = (omega arith, ahead-next _ _ _ c.before.before.loop-step.invariant.1 c.u32_at-at.ensures)
+loop-again c = (omega arith, ahead-next _ _ _ c.loop-step.invariant.1 c.u32_at-at.ensures)
 
 returns : tie.Need-returns invariant-loop decreases-loop
 returns c =
-    let l = c.before in
-    let a = l.before.before.args in
-    l.loop-step.invariant.1 ∙ ap (ahead a.cache.now a.field) (le_antisymm l.loop-step.invariant.0 (search rules))
+    let a = c.args in
+    c.loop-step.invariant.1 ∙ ap (ahead a.cache.now a.field) (le_antisymm c.loop-step.invariant.0 (search rules))
 
 pub ahead_spec : {M : Type 1} → statement M
 ahead_spec =

@@ -13,20 +13,16 @@ abbrev decreases-loop : tie.decreases-loop-step
 decreases-loop cache field most at₀ step₀ mark₀ start₀ at step mark start = most - step
 
 loop-holds : tie.Need-loop-step-init invariant-loop decreases-loop
-loop-holds c = (omega arith, marked_start _ _ c.before.requires.0)
+loop-holds c = (omega arith, marked_start _ _ c.requires.0)
 
 u32-at-requires : tie.Need-u32_at-at-requires invariant-loop decreases-loop
-u32-at-requires c κs = let l = c.before.loop-step in omega (arith, l.invariant.1.here, l.invariant.1.inside l.step (omega arith))
+u32-at-requires c κs = let l = c.loop-step in omega (arith, l.invariant.1.here, l.invariant.1.inside l.step (omega arith))
 
 -- a step that leads to a record inside
-abbrev turn : tie.Else-cache-at invariant-loop decreases-loop → tie.At-loop-step invariant-loop decreases-loop
-turn c = c.before.before.before
-
 stepped : (c : tie.Else-cache-at invariant-loop decreases-loop) →
-    let l = turn c in
-    let a = l.before.before.args in
-    Marked a.cache.now a.field (l.loop-step.step + 1) l.loop-step.start c.before.u32_at-at.result l.loop-step.mark
-stepped c = marked_next _ _ (turn c).loop-step.invariant.1 c.before.u32_at-at.ensures c.if-cache-at.false
+    let a = c.args in
+    Marked a.cache.now a.field (c.loop-step.step + 1) c.loop-step.start c.u32_at-at.result c.loop-step.mark
+stepped c = marked_next _ _ c.loop-step.invariant.1 c.u32_at-at.ensures c.if-cache-at.false
 
 sub-t12 : tie.Need-overflow_sub-result invariant-loop decreases-loop
 sub-t12 c = (stepped c.before).order
@@ -35,7 +31,7 @@ returns-2 : tie.Need-returns-then-at-mark invariant-loop decreases-loop
 returns-2 c = marked-round _ _ (stepped c.before) (search rules) c.if-at-mark.true
 
 mul-if3 : tie.Need-overflow_mul-start invariant-loop decreases-loop
-mul-if3 c = let l = turn c.before in omega (arith, l.loop-step.inv.1.order, l.loop-step.inv.0, l.before.before.pre)
+mul-if3 c = omega (arith, c.loop-step.invariant.1.order, c.loop-step.invariant.0, c.requires)
 
 loop-again : tie.Need-loop-step-preserved-then-start-step invariant-loop decreases-loop
 loop-again c = (omega arith, marked-renewed _ _ (stepped c.before.before))

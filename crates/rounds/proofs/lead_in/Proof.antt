@@ -21,7 +21,7 @@ abbrev decreases-loop : tie.decreases-loop-step
 decreases-loop cache field round slow₀ fast₀ step₀ slow fast step = round.start - step
 
 ahead-requires : tie.Need-ahead-fast-requires invariant-loop decreases-loop
-ahead-requires c κs m l = c.before.requires.inside m (omega arith)
+ahead-requires c κs m l = c.requires.inside m (omega arith)
 
 loop-holds : tie.Need-loop-step-init invariant-loop decreases-loop
 unfolding ahead
@@ -29,38 +29,33 @@ loop-holds c = (omega arith, refl, rw zero-add c.ahead-fast.ensures, λ i g. abs
 
 returns : tie.Need-returns-then-slow-fast invariant-loop decreases-loop
 returns c =
-    let l = c.before.before.before.loop-step in
+    let l = c.loop-step in
     record { before = l.invariant.0; back = sym l.invariant.2 ∙ sym c.if-slow-fast.true ∙ l.invariant.1; first = l.invariant.3 }
 
 -- the records of both lie inside
 u32-at-requires : tie.Need-u32_at-slow-requires invariant-loop decreases-loop
 u32-at-requires c κs =
-    let l = c.before.before.before in
-    omega (arith, l.loop-step.invariant.1, l.before.before.before.requires.inside l.loop-step.step (omega arith))
+    omega (arith, c.loop-step.invariant.1, c.requires.inside c.loop-step.step (omega arith))
 
 u32-at-requires-2 : tie.Need-u32_at-fast-requires invariant-loop decreases-loop
 u32-at-requires-2 c κs =
-    let l = c.before.before.before.before in
-    let a = l.before.before.before.args in
-    omega (arith, l.loop-step.invariant.2, l.before.before.before.requires.inside (l.loop-step.step + a.round.steps) (omega arith))
+    let a = c.args in
+    omega (arith, c.loop-step.invariant.2, c.requires.inside (c.loop-step.step + a.round.steps) (omega arith))
 
 loop-again : tie.Need-loop-step-preserved invariant-loop decreases-loop
 loop-again c =
-    let l = c.before.before.before.before.before in
-    let steps = l.before.before.before.args.round.steps in
-    let later : l.loop-step.step + steps + 1 ≡ l.loop-step.step + 1 + steps = omega arith in (
+    let steps = c.args.round.steps in
+    let later : c.loop-step.step + steps + 1 ≡ c.loop-step.step + 1 + steps = omega arith in (
       omega arith,
-      ahead-next _ _ _ l.loop-step.invariant.1 c.before.u32_at-slow.ensures,
-      rw later at (ahead-next _ _ _ l.loop-step.invariant.2 c.u32_at-fast.ensures),
-      rw add-one (below_suc l.loop-step.invariant.3 (λ e. c.before.before.if-slow-fast.false (l.loop-step.invariant.1 ∙ sym e ∙ sym l.loop-step.invariant.2))),
+      ahead-next _ _ _ c.loop-step.invariant.1 c.u32_at-slow.ensures,
+      rw later at (ahead-next _ _ _ c.loop-step.invariant.2 c.u32_at-fast.ensures),
+      rw add-one (below_suc c.loop-step.invariant.3 (λ e. c.if-slow-fast.false (c.loop-step.invariant.1 ∙ sym e ∙ sym c.loop-step.invariant.2))),
     )
 
 returns-2 : tie.Need-returns invariant-loop decreases-loop
 returns-2 c =
-    let l = c.before.before in
-    let start = l.before.before.before in
-    let last : l.loop-step.step ≡ start.args.round.start = le_antisymm l.loop-step.invariant.0 (search rules) in
-    record { before = l.loop-step.invariant.0; back = rw last start.requires.back; first = l.loop-step.invariant.3 }
+    let last : c.loop-step.step ≡ c.args.round.start = le_antisymm c.loop-step.invariant.0 (search rules) in
+    record { before = c.loop-step.invariant.0; back = rw last c.requires.back; first = c.loop-step.invariant.3 }
 
 pub lead_in_spec : {M : Type 1} → statement M
 lead_in_spec =

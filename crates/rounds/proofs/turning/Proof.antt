@@ -8,34 +8,30 @@ use Rattle.rounds.proofs.turning.Tie as tie
 
 find-requires : tie.Need-find-seen-requires
 find-requires c κs =
-    let pre = c.before.requires in
-    (omega (arith, pre.1.1, pre.1.0 c.before.args.done (omega arith)), omega (arith, pre.0.1), pre.0.2)
+    let pre = c.requires in
+    (omega (arith, pre.1.1, pre.1.0 c.args.done (omega arith)), omega (arith, pre.0.1), pre.0.2)
 
 returns : tie.Need-returns-then-seen-eq0
-returns c = record { onward = c.before.before.before.before.requires.0.0; within = omega arith; back = λ l. absurd (omega arith) }
+returns c = record { onward = c.requires.0.0; within = omega arith; back = λ l. absurd (omega arith) }
 
 lead-in-requires : tie.Need-lead_in-requires
 lead-in-requires c κs =
-    let found = c.before.before.before in
-    let pre = found.before.before.requires in
-    runs-from _ _ _ pre.1.1 pre.1.0 found.find-seen.ensures
+    let pre = c.requires in
+    runs-from _ _ _ pre.1.1 pre.1.0 c.find-seen.ensures
 
 -- both sums are steps of the way to where the look found the round
 within : (c : tie.After-lead_in) →
-    let found = c.before.before.before.before in
-    let a = found.before.before.args in c.lead_in.result + found.find-seen.result.steps ≤ a.far
+    let a = c.args in c.lead_in.result + c.find-seen.result.steps ≤ a.far
 within c =
-    let found = c.before.before.before.before in
-    omega (arith, c.lead_in.ensures.before, found.find-seen.ensures.within, found.before.before.requires.0.0)
+    omega (arith, c.lead_in.ensures.before, c.find-seen.ensures.within, c.requires.0.0)
 
 back : (c : tie.After-lead_in) {n : ℕ} →
-    let found = c.before.before.before.before in
-    let a = found.before.before.args in
-    c.lead_in.result + found.find-seen.result.steps ≤ n → ComesBack a.cache.now a.field n
+    let a = c.args in
+    c.lead_in.result + c.find-seen.result.steps ≤ n → ComesBack a.cache.now a.field n
 back c l = record {
   first = c.lead_in.result;
-  second = c.lead_in.result + c.before.before.before.before.find-seen.result.steps;
-  order = omega (arith, c.before.before.if-seen-eq0.false);
+  second = c.lead_in.result + c.find-seen.result.steps;
+  order = omega (arith, c.if-seen-eq0.false);
   within = l;
   same = c.lead_in.ensures.back;
 }
@@ -50,11 +46,11 @@ pub turning_spec : {M : Type 1} → statement M
 turning_spec =
     tie.close
     (tie.spec
-    (λ c. c.before.requires.0.0)
+    (λ c. c.requires.0.0)
     find-requires
     returns
-    (λ c. let found = c.before.before.before in omega (arith, found.find-seen.ensures.within, found.before.before.requires.0))
+    (λ c. omega (arith, c.find-seen.ensures.within, c.requires.0))
     lead-in-requires
-    (λ c. omega (arith, within c, c.before.before.before.before.before.before.requires.0))
+    (λ c. omega (arith, within c, c.requires.0))
     returns-2
     returns-3)

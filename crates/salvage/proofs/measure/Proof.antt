@@ -5,7 +5,7 @@ use Rattle.salvage.proofs.measure.Statement.{statement}
 use Rattle.salvage.proofs.measure.Tie as tie
 
 returns : tie.Need-returns
-returns c = measured c.before.before.before.before.before.before.pass.ensures
+returns c = measured c.pass.ensures
 
 pub measure_spec : {M : Type 1} → statement M
 measure_spec =

@@ -12,22 +12,20 @@ use Rattle.salvage.proofs.salvage.Tie as tie
 
 returns : tie.Need-returns-then-fault-ne0
 returns c =
-    let turn = c.before in
-    let judged = turn.before.before in
-    let a = judged.before.before.before.before.args in
+    let a = c.args in
     let s = a.cache.now in
     let bytes = a.catalogue.now in
     let words = a.report.now in
-    let e = judged.header-fault.ensures in
-    let bad : (header_fault s).number ≡ 0 → ⊥ = λ z. turn.if-fault-ne0.true (same_number e ∙ z) in
+    let e = c.header-fault.ensures in
+    let bad : (header_fault s).number ≡ 0 → ⊥ = λ z. c.if-fault-ne0.true (same_number e ∙ z) in
     let h = refuses s bytes words (header-refuses s bytes words bad) bad in
     (c.refusal.ensures ∙ ap (λ (x : Fault). salvage_is x.number x.place 0 0) e ∙ h.answer, (h.bytes_left, h.words_left))
 
 read-requires : tie.Need-read-t-requires
-read-requires c κs = sym (same_number c.before.before.header-fault.ensures) ∙ c.if-fault-ne0.false
+read-requires c κs = sym (same_number c.header-fault.ensures) ∙ c.if-fault-ne0.false
 
 save-requires : tie.Need-save-requires
-save-requires c κs = (c.before.before.before.before.read-t.ensures, omega arith, omega arith)
+save-requires c κs = (c.read-t.ensures, omega arith, omega arith)
 
 pub salvage_spec : {M : Type 1} → statement M
 salvage_spec =

@@ -26,58 +26,44 @@ decreases-loop cache t closed₀ out₀ at report₀ n kept₀ bytes₀ words₀
 loop-holds : tie.Need-loop-i-init invariant-loop decreases-loop
 loop-holds c = (omega arith, refl, closed_none _ _, paths-put-none _ _ _ _)
 
-abbrev start : tie.At-loop-i invariant-loop decreases-loop → tie.Start invariant-loop decreases-loop
-start l = l.before.before.before.before.before
-
 path-requires : tie.Need-path-judged-requires invariant-loop decreases-loop
-path-requires c κs = let s = start c.before in (s.pre.0, omega (arith, same-directories s.pre.0))
+path-requires c κs = (c.requires.0, omega (arith, same-directories c.requires.0))
 
 -- what is known where a path is judged
 module _ (c : tie.After-struct_known-1 invariant-loop decreases-loop) where
-  abbrev l : tie.At-loop-i invariant-loop decreases-loop
-  l = c.before.before.before.before
+  number : c.path-judged.result.fault.number ≡ (path_fault c.args.cache.now c.loop-i.i).number
+  number = ap (λ (p : JudgedPath). p.fault-1.number) c.path-judged.ensures
 
-  abbrev read : tie.After-path-judged invariant-loop decreases-loop
-  read = c.before.before
+  room : c.loop-i.i < length c.loop-i.closed
+  room = omega (arith, c.loop-i.invariant.1, same-directories c.requires.0, c.requires.1)
 
-  number : read.path-judged.result.fault.number ≡ (path_fault (start l).args.cache.now l.loop-i.i).number
-  number = ap (λ (p : JudgedPath). p.fault-1.number) read.path-judged.ensures
-
-  room : l.loop-i.i < length l.loop-i.closed
-  room = omega (arith, l.loop-i.inv.1, same-directories (start l).pre.0, (start l).pre.1)
-
-  few : (l.loop-i.i < 65535) × (length l.loop-i.closed ≡ length (start l).args.closed.now)
-  few = (omega (arith, same-directories (start l).pre.0, valid-header (start l).pre.0), l.loop-i.inv.1)
+  few : (c.loop-i.i < 65535) × (length c.loop-i.closed ≡ length c.args.closed.now)
+  few = (omega (arith, same-directories c.requires.0, valid-header c.requires.0), c.loop-i.invariant.1)
 
 mul-closed : tie.Need-offset_bounds-closed-place invariant-loop decreases-loop
 mul-closed c = omega (arith, few c.before)
 
 add_kept : tie.Need-overflow_add-kept invariant-loop decreases-loop
 add_kept c =
-    let j = c.before in
-    omega (arith, few j, (l j).loop-i.invariant.2.count, paths-few (start (l j)).args.cache.now (l j).loop-i.i)
+    omega (arith, few c.before, c.loop-i.invariant.2.count, paths-few c.args.cache.now c.loop-i.i)
 
 put-path-requires : tie.Need-put_path-bytes-requires invariant-loop decreases-loop
 put-path-requires c κs =
-    let j = c.before.before in
-    let kept = sym (number j) ∙ c.before.if-fault-eq0.true in
+    let kept = sym (number c.before.before) ∙ c.if-fault-eq0.true in
     let h = path_inside _ _ kept in
-    let e = (read j).path-judged.ensures in (
+    let e = c.path-judged.ensures in (
       omega (arith, path-start e h, path-size e h, h.inside),
       omega (arith, path-size e h, h.short),
-      omega (arith, few j, (l j).loop-i.invariant.3.bytes-few, (start (l j)).pre.2),
+      omega (arith, few c.before.before, c.loop-i.invariant.3.bytes-few, c.requires.2),
     )
 
 loop-again : tie.Need-loop-i-preserved-then-fault-eq0 invariant-loop decreases-loop
 loop-again c =
-    let put = c.before.before in
-    let turn = put.before.before in
-    let j = turn.before in
-    let kept = sym (number j) ∙ turn.if-fault-eq0.true in (
+    let kept = sym (number c.before.before.before.before.before) ∙ c.if-fault-eq0.true in (
       omega arith,
-      simp length-set (l j).loop-i.invariant.1,
-      closed-kept (l j).loop-i.invariant.2 (room j) kept,
-      paths-put-kept (l j).loop-i.invariant.3 (read j).path-judged.ensures kept put.put_path-bytes.ensures,
+      simp length-set c.loop-i.invariant.1,
+      closed-kept c.loop-i.invariant.2 (room c.before.before.before.before.before) kept,
+      paths-put-kept c.loop-i.invariant.3 c.path-judged.ensures kept c.put_path-bytes.ensures,
     )
 
 mul-closed-2 : tie.Need-offset_bounds-closed-place-else-fault-eq0 invariant-loop decreases-loop
@@ -85,29 +71,25 @@ mul-closed-2 c = omega (arith, few c.before)
 
 row-requires : tie.Need-row-words-requires invariant-loop decreases-loop
 row-requires c κs =
-    let j = c.before.before in
-    let s = (start (l j)).args.cache.now in
-    let place = ap (λ (p : JudgedPath). p.fault-1.place) (read j).path-judged.ensures in (
-      omega (arith, few j, (l j).loop-i.invariant.3.words-few),
-      omega (arith, place, path-within s (l j).loop-i.i, same-directories (start (l j)).pre.0, valid-header (start (l j)).pre.0),
+    let s = c.args.cache.now in
+    let place = ap (λ (p : JudgedPath). p.fault-1.place) c.path-judged.ensures in (
+      omega (arith, few c.before.before, c.loop-i.invariant.3.words-few),
+      omega (arith, place, path-within s c.loop-i.i, same-directories c.requires.0, valid-header c.requires.0),
     )
 
 loop-again-2 : tie.Need-loop-i-preserved invariant-loop decreases-loop
 loop-again-2 c =
-    let put = c.before.before in
-    let turn = put.before.before in
-    let j = turn.before in
-    let bad : (path_fault (start (l j)).args.cache.now (l j).loop-i.i).number ≡ 0 → ⊥ = λ z. turn.if-fault-eq0.false (number j ∙ z) in (
+    let bad : (path_fault c.args.cache.now c.loop-i.i).number ≡ 0 → ⊥ = λ z. c.if-fault-eq0.false (number c.before.before.before.before.before ∙ z) in (
       omega arith,
-      simp length-set (l j).loop-i.invariant.1,
-      closed-gone (l j).loop-i.invariant.2 (room j) bad,
-      paths-put-gone (l j).loop-i.invariant.3 bad (rw (ap (λ (p : JudgedPath). p.fault-1) (read j).path-judged.ensures) at put.row-words.ensures),
+      simp length-set c.loop-i.invariant.1,
+      closed-gone c.loop-i.invariant.2 (room c.before.before.before.before.before) bad,
+      paths-put-gone c.loop-i.invariant.3 bad (rw (ap (λ (p : JudgedPath). p.fault-1) c.path-judged.ensures) at c.row-words.ensures),
     )
 
 returns : tie.Need-returns invariant-loop decreases-loop
 returns c =
-    let h = c.before.loop-i.invariant in
-    let all : c.before.loop-i.i ≡ directories (start c.before).args.cache.now = omega (arith, same-directories (start c.before).pre.0) in
+    let h = c.loop-i.invariant in
+    let all : c.loop-i.i ≡ directories c.args.cache.now = omega (arith, same-directories c.requires.0) in
     (rw all at h.2, rw all at h.3)
 
 pub close_up_spec : {M : Type 1} → statement M
@@ -132,7 +114,7 @@ close_up_spec =
     (λ c. search rules)
     (λ c. search rules)
     loop-again-2
-    (λ c. c.before.loop-i.invariant.1)
-    (λ c. c.before.loop-i.invariant.3.paths.same)
-    (λ c. c.before.loop-i.invariant.3.rows.same)
+    (λ c. c.loop-i.invariant.1)
+    (λ c. c.loop-i.invariant.3.paths.same)
+    (λ c. c.loop-i.invariant.3.rows.same)
     returns)

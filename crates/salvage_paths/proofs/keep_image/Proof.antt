@@ -14,48 +14,39 @@ use Rattle.salvage_paths.proofs.keep_image.Statement.{statement}
 use Rattle.salvage_paths.proofs.keep_image.Tie as tie
 
 -- the image keeps rule 11
-valid : (c : tie.Else-not-valid_image) → let a = c.before.before.before.before.args in valid_image a.cache.now a.at ≡ true
-valid c = sym c.before.valid_image.ensures ∙ not-false _ c.if-not-valid_image.false
+valid : (c : tie.Else-not-valid_image) → let a = c.args in valid_image a.cache.now a.at ≡ true
+valid c = sym c.valid_image.ensures ∙ not-false _ c.if-not-valid_image.false
 
 -- there are directories
-some : (c : tie.Else-t-eq0) → let a = c.before.before.before.before.before.before.before.args in directories a.cache.now ≡ 0 → ⊥
-some c z = c.if-t-eq0.false (same-directories c.before.before.before.before.before.before.before.requires.0.0 ∙ z)
+some : (c : tie.Else-t-eq0) → let a = c.args in directories a.cache.now ≡ 0 → ⊥
+some c z = c.if-t-eq0.false (same-directories c.requires.0.0 ∙ z)
 
 valid-image-requires : tie.Need-valid_image-requires
 valid-image-requires c κs =
-    let start = c.before.before in
-    ((omega (arith, valid-header start.requires.0.0), start.requires.0.1), start.requires.0.2)
+    ((omega (arith, valid-header c.requires.0.0), c.requires.0.1), c.requires.0.2)
 
 returns : tie.Need-returns-then-not-valid_image
-returns c = bad-goes _ _ (sym c.before.valid_image.ensures ∙ not-true _ c.if-not-valid_image.true)
+returns c = bad-goes _ _ (sym c.valid_image.ensures ∙ not-true _ c.if-not-valid_image.true)
 
 returns-2 : tie.Need-returns-then-t-eq0
 returns-2 c =
-    let read = c.before.before in
-    let start = read.before.before.before.before.before in
-    rw read.u16_at-index.ensures (stays_plain _ _ (valid read.before) (sym (same-directories start.requires.0.0) ∙ c.if-t-eq0.true))
+    rw c.u16_at-index.ensures (stays_plain _ _ (valid c.before.before.before) (sym (same-directories c.requires.0.0) ∙ c.if-t-eq0.true))
 
 shared-slice-read-new : tie.Need-bounds-closed-place
 shared-slice-read-new c =
-    let read = c.before.before.before in
-    let start = read.before.before.before.before.before in
-    omega (arith, read.u16_at-index.ensures, names-directory _ _ (valid read.before) (some c.before), start.requires.1.room)
+    omega (arith, c.u16_at-index.ensures, names-directory _ _ (valid c.before.before.before.before) (some c.before), c.requires.1.room)
 
 returns-3 : tie.Need-returns-then-new
 returns-3 c =
-    let read = c.before.before.before.before in
-    let start = read.before.before.before.before.before in
-    let few = (valid-header start.requires.0.0).directories-few in
-    let told = rw read.u16_at-index.ensures at c.if-new.true in
-    told-goes _ _ (valid read.before) (some c.before.before) start.requires.1 few told
+    let few = (valid-header c.requires.0.0).directories-few in
+    let told = rw c.u16_at-index.ensures at c.if-new.true in
+    told-goes _ _ (valid c.before.before.before.before.before) (some c.before.before) c.requires.1 few told
 
 returns-4 : tie.Need-returns
 returns-4 c =
-    let read = c.before.before.before.before in
-    let start = read.before.before.before.before.before in
-    let few = (valid-header start.requires.0.0).directories-few in
-    let told = rw read.u16_at-index.ensures at c.if-new.false in
-    rw read.u16_at-index.ensures (told-stays _ _ (valid read.before) (some c.before.before) start.requires.1 few told)
+    let few = (valid-header c.requires.0.0).directories-few in
+    let told = rw c.u16_at-index.ensures at c.if-new.false in
+    rw c.u16_at-index.ensures (told-stays _ _ (valid c.before.before.before.before.before) (some c.before.before) c.requires.1 few told)
 
 pub keep_image_spec : {M : Type 1} → statement M
 keep_image_spec =

@@ -8,12 +8,10 @@ use Rattle.salvage_paths.proofs.put_path.Tie as tie
 
 text-requires : tie.Need-text-requires
 text-requires c κs =
-    let done = c.before.before.before in
-    let start = done.before.before.before.before in
-    (start.requires.0, omega (arith, start.requires, done.short-next.ensures.next, bytes-length 2 start.args.size))
+    (c.requires.0, omega (arith, c.requires, c.short-next.ensures.next, bytes-length 2 c.args.size))
 
 returns : tie.Need-returns
-returns c = puts-more c.before.before.before.before.before.before.short-next.ensures c.before.before.text.ensures
+returns c = puts-more c.short-next.ensures c.text.ensures
 
 pub put_path_spec : {M : Type 1} → statement M
 put_path_spec = tie.close (tie.spec (λ c. search rules) (λ c κs. search rules) text-requires (λ c. search rules) returns)

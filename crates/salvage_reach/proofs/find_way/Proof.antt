@@ -24,65 +24,50 @@ decreases-loop cache t bucket field₀ mark₀ step₀ field mark step = 5 * len
 loop-holds : tie.Need-loop-record-init invariant-loop decreases-loop
 unfolding link_field
 loop-holds c =
-    let start = c.before.before in
-    let field = c.bucket_field-field.ensures ∙ same-field start.requires.0 _ in
-    (omega (arith, field-inside start.requires.0 _ start.requires.1), record { field = field; passes = λ m l. absurd (omega arith); marks = marks-start _ _ })
+    let field = c.bucket_field-field.ensures ∙ same-field c.requires.0 _ in
+    (omega (arith, field-inside c.requires.0 _ c.requires.1), record { field = field; passes = λ m l. absurd (omega arith); marks = marks-start _ _ })
 
 look-requires : tie.Need-look-here-requires invariant-loop decreases-loop
-look-requires c κs = (c.before.before.before.requires.0, c.loop-record.invariant.0)
+look-requires c κs = (c.requires.0, c.loop-record.invariant.0)
 
 returns : tie.Need-returns-in-Ended invariant-loop decreases-loop
 returns c =
-    let told = c.before in
-    let looked = told.before.before in
-    rw c.reached_at.ensures (ahead-ended looked.before.loop-record.invariant.1 (rw told.enum_told-1.given.1 at looked.look-here.ensures))
+    rw c.reached_at.ensures (ahead-ended c.loop-record.invariant.1 (rw c.enum_told-1.given.1 at c.look-here.ensures))
 
 returns-2 : tie.Need-returns-in-Outside invariant-loop decreases-loop
 returns-2 c =
-    let told = c.before in
-    let looked = told.before.before in
-    rw c.reached_at-in-Outside.ensures (ahead-outside looked.before.loop-record.invariant.1 (rw told.enum_told-in-Outside-1.given.1 at looked.look-here.ensures))
+    rw c.reached_at-in-Outside.ensures (ahead-outside c.loop-record.invariant.1 (rw c.enum_told-in-Outside-1.given.1 at c.look-here.ensures))
 
 add-reached-at : tie.Need-overflow_add-step invariant-loop decreases-loop
-add-reached-at c = let l = c.before.before.before in omega (arith, marks-few l.loop-record.invariant.1.marks, valid-header l.before.before.before.requires.0)
+add-reached-at c = omega (arith, marks-few c.loop-record.invariant.1.marks, valid-header c.requires.0)
 
 returns-3 : tie.Need-returns-in-Misnamed invariant-loop decreases-loop
 returns-3 c =
-    let told = c.before in
-    let looked = told.before.before in
-    rw c.reached_at-in-Misnamed.ensures (ahead-misnamed looked.before.loop-record.invariant.1 (rw told.enum_told-in-Misnamed-1.given.1 at looked.look-here.ensures))
+    rw c.reached_at-in-Misnamed.ensures (ahead-misnamed c.loop-record.invariant.1 (rw c.enum_told-in-Misnamed-1.given.1 at c.look-here.ensures))
 
 sub-t14 : tie.Need-overflow_sub-result invariant-loop decreases-loop
-sub-t14 c = c.before.before.before.before.before.before.before.loop-record.invariant.1.marks.behind-it
+sub-t14 c = c.loop-record.invariant.1.marks.behind-it
 
 returns-4 : tie.Need-returns-then-record-mark invariant-loop decreases-loop
 returns-4 c =
-    let here = c.before.before.before.before in
-    let looked = here.before.before in
-    ahead-round looked.before.loop-record.invariant.1 (rw here.here-1.given.1 at looked.look-here.ensures) c.before.if-record-mark.true
+    ahead-round c.loop-record.invariant.1 (rw c.here-1.given.1 at c.look-here.ensures) c.if-record-mark.true
 
 move-up-requires : tie.Need-move_up-mark-requires invariant-loop decreases-loop
 move-up-requires c κs =
-    let l = c.before.before.before.before.before.before in
-    omega (arith, marks-few l.loop-record.invariant.1.marks, valid-header l.before.before.before.requires.0)
+    omega (arith, marks-few c.loop-record.invariant.1.marks, valid-header c.requires.0)
 
 add_step : tie.Need-overflow_add-step-in-Passes invariant-loop decreases-loop
 add_step c =
-    let l = c.before.before.before.before.before.before.before in
-    omega (arith, marks-few l.loop-record.invariant.1.marks, valid-header l.before.before.before.requires.0)
+    omega (arith, marks-few c.loop-record.invariant.1.marks, valid-header c.requires.0)
 
 loop-less : tie.Need-loop-record-smaller invariant-loop decreases-loop
 loop-less c =
-    let l = c.before.before.before.before.before.before.before in
-    omega (arith, marks-few l.loop-record.invariant.1.marks, valid-header l.before.before.before.requires.0)
+    omega (arith, marks-few c.loop-record.invariant.1.marks, valid-header c.requires.0)
 
 loop-again : tie.Need-loop-record-preserved invariant-loop decreases-loop
 loop-again c =
-    let here = c.before.before.before.before in
-    let looked = here.before.before in
-    let l = looked.before in
-    let told = rw here.here-1.given.1 at looked.look-here.ensures in
-    (omega (arith, told.0, told.1), rw c.move_up-mark.ensures (ahead-again l.loop-record.invariant.1 told c.before.if-record-mark.false))
+    let told = rw c.here-1.given.1 at c.look-here.ensures in
+    (omega (arith, told.0, told.1), rw c.move_up-mark.ensures (ahead-again c.loop-record.invariant.1 told c.if-record-mark.false))
 
 pub find_way_spec : {M : Type 1} → statement M
 find_way_spec =

@@ -27,94 +27,69 @@ invariant-loop cache t closed bucket index₀ catalogue₀ report₀ sums met cu
 abbrev decreases-loop : tie.decreases-loop-step
 decreases-loop cache t closed bucket index₀ catalogue₀ report₀ sums met cut field₀ so-far₀ step₀ index catalogue report field so_far step = met - step
 
-abbrev start : tie.At-loop-step invariant-loop decreases-loop → tie.Start invariant-loop decreases-loop
-start l = l.before.before.before.before.before.before.before.before.before
-
 loop-holds : tie.Need-loop-step-init invariant-loop decreases-loop
 loop-holds c =
-    let s = c.before.before.before.before.before.before.before.before in
-    (refl, steps_first _ _ _ _ _ _ (c.bucket_field-field.ensures ∙ same-field s.requires.0.0 _))
+    (refl, steps_first _ _ _ _ _ _ (c.bucket_field-field.ensures ∙ same-field c.requires.0.0 _))
 
 -- how far the chain goes, and how long the cache is
 module _ (l : tie.At-loop-step invariant-loop decreases-loop) where
-  met-is : definition.met (start l).args.cache.now (start l).args.bucket ≡ l.before.before.before.reach-reached.result.met
-  met-is = l.before.before.before.reach-reached.ensures.met
+  met-is : definition.met l.args.cache.now l.args.bucket ≡ l.reach-reached.result.met
+  met-is = l.reach-reached.ensures.met
 
-  short : length (start l).args.cache.now ≤ 2 ^ 24
-  short = (valid-header (start l).pre.0.0).not-too-long
+  short : length l.args.cache.now ≤ 2 ^ 24
+  short = (valid-header l.requires.0.0).not-too-long
 
-  bucket-inside : bucket_field (start l).args.cache.now (start l).args.bucket + 4 ≤ length (start l).args.cache.now
-  bucket-inside = field-inside (start l).pre.0.0 (start l).args.bucket (start l).pre.0.2
+  bucket-inside : bucket_field l.args.cache.now l.args.bucket + 4 ≤ length l.args.cache.now
+  bucket-inside = field-inside l.requires.0.0 l.args.bucket l.requires.0.2
 
   fits : (l.loop-step.so_far.bytes < 2 ^ 58) × (l.loop-step.so_far.words < 2 ^ 58)
-  fits = steps-fits l.loop-step.inv.1 short (start l).pre.1.1 (start l).pre.1.2
+  fits = steps-fits l.loop-step.invariant.1 short l.requires.1.1 l.requires.1.2
 
 -- a step that is to be made
 module _ (e : tie.Else-so_far-gt65535 invariant-loop decreases-loop) where
-  abbrev at : tie.At-loop-step invariant-loop decreases-loop
-  at = e.before.before.before
-
-  below : at.loop-step.step < definition.met (start at).args.cache.now (start at).args.bucket
-  below = omega (arith, met-is at)
+  below : e.loop-step.step < definition.met e.args.cache.now e.args.bucket
+  below = omega (arith, met-is e.before.before.before)
 
 module _ (c : tie.After-u32_at-record invariant-loop decreases-loop) where
-  abbrev turn : tie.Else-so_far-gt65535 invariant-loop decreases-loop
-  turn = c.before
+  next : c.u32_at-record.result ≡ link c.args.cache.now c.args.bucket c.loop-step.step
+  next = steps-link c.loop-step.invariant.1 c.u32_at-record.ensures
 
-  next : c.u32_at-record.result ≡ link (start (at turn)).args.cache.now (start (at turn)).args.bucket (at turn).loop-step.step
-  next = steps-link (at turn).loop-step.inv.1 c.u32_at-record.ensures
-
-  inside : c.u32_at-record.result + 12 ≤ length (start (at turn)).args.cache.now
-  inside = steps-inside (at turn).loop-step.inv.1 (below turn) next
+  inside : c.u32_at-record.result + 12 ≤ length c.args.cache.now
+  inside = steps-inside c.loop-step.invariant.1 (below c.before) next
 
 meet-requires : tie.Need-meet-fault-requires invariant-loop decreases-loop
 meet-requires c κs =
-    let read = c.before.before.before in
-    let l = at (turn read) in
-    ((start l).pre.0.0, inside read, omega (arith, l.loop-step.inv.0, (start l).pre.0.3, (turn read).if-so_far-gt65535.false))
+    (c.requires.0.0, inside c.before.before.before, omega (arith, c.loop-step.invariant.0, c.requires.0.3, c.if-so_far-gt65535.false))
 
 add-requires : tie.Need-add-so_far-requires invariant-loop decreases-loop
 add-requires c κs =
-    let met = c.before.before.before.before in
-    let read = met.before.before.before.before in
-    let l = at (turn read) in
-    let s = (start l).args.cache.now in
-    let judged = (met.meet-fault.ensures _ (steps-names l.loop-step.inv.1)).fate in
-    let place = fate-within s (start l).args.bucket (definition.kept_names s (start l).args.bucket l.loop-step.step) read.u32_at-record.result in (
-      ((start l).pre.0.0, (start l).pre.0.1, steps-kept l.loop-step.inv.1 (below (turn read)) (next read) judged),
-      (omega (arith, ap (λ (y : Fault). y.place) judged, place, inside read, short l), omega (arith, (turn read).if-so_far-gt65535.false), (fits l).0, (fits l).1),
+    let s = c.args.cache.now in
+    let judged = (c.meet-fault.ensures _ (steps-names c.loop-step.invariant.1)).fate in
+    let place = fate-within s c.args.bucket (definition.kept_names s c.args.bucket c.loop-step.step) c.u32_at-record.result in (
+      (c.requires.0.0, c.requires.0.1, steps-kept c.loop-step.invariant.1 (below c.before.before.before.before.before.before.before.before.before) (next c.before.before.before.before.before.before.before.before) judged),
+      (omega (arith, ap (λ (y : Fault). y.place) judged, place, inside c.before.before.before.before.before.before.before.before, short c.before.before.before.before.before.before.before.before.before.before.before.before), omega (arith, c.if-so_far-gt65535.false), (fits c.before.before.before.before.before.before.before.before.before.before.before.before).0, (fits c.before.before.before.before.before.before.before.before.before.before.before.before).1),
     )
 
 loop-again : tie.Need-loop-step-preserved invariant-loop decreases-loop
 loop-again c =
-    let added = c.before.before.before.before in
-    let met = added.before.before.before.before.before in
-    let read = met.before.before.before.before in
-    let l = at (turn read) in (
+    (
       omega arith,
-      steps_next l.loop-step.inv.1 (below (turn read)) (next read) (met.meet-fault.ensures _ (steps-names l.loop-step.inv.1)) added.add-so_far.ensures,
+      steps_next c.loop-step.invariant.1 (below c.before.before.before.before.before.before.before.before.before.before.before.before.before.before) (next c.before.before.before.before.before.before.before.before.before.before.before.before.before) (c.meet-fault.ensures _ (steps-names c.loop-step.invariant.1)) c.add-so_far.ensures,
     )
 
 returns-2 : tie.Need-returns-then-cut-eq0 invariant-loop decreases-loop
 returns-2 c =
-    let done = c.before.before in
-    let l = done.before in
-    walks-uncut l.loop-step.invariant.1 (omega (arith, met-is l)) (short l) (same_number l.before.before.before.reach-reached.ensures.cut ∙ c.if-cut-eq0.true)
+    walks-uncut c.loop-step.invariant.1 (omega (arith, met-is c.before.before.before)) (short c.before.before.before) (same_number c.reach-reached.ensures.cut ∙ c.if-cut-eq0.true)
 
 row-requires : tie.Need-row-words-requires invariant-loop decreases-loop
 row-requires c κs =
-    let l = c.before.before.before.before in
-    let s = start l in
-    let place = cut-within s.args.cache.now s.args.bucket (bucket-inside l) in
-    let cut = ap (λ (v : Fault). v.place) l.before.before.before.reach-reached.ensures.cut in
-    (omega (arith, fits l), omega (arith, place, cut, short l))
+    let place = cut-within c.args.cache.now c.args.bucket (bucket-inside c.before.before.before.before) in
+    let cut = ap (λ (v : Fault). v.place) c.reach-reached.ensures.cut in
+    (omega (arith, fits c.before.before.before.before), omega (arith, place, cut, short c.before.before.before.before))
 
 returns-3 : tie.Need-returns invariant-loop decreases-loop
 returns-3 c =
-    let put = c.before.before in
-    let done = put.before.before.before.before in
-    let l = done.before in
-    walks-cut l.loop-step.invariant.1 (omega (arith, met-is l)) (short l) l.before.before.before.reach-reached.ensures.cut put.before.before.if-cut-eq0.false put.row-words.ensures
+    walks-cut c.loop-step.invariant.1 (omega (arith, met-is c.before.before.before.before.before.before.before)) (short c.before.before.before.before.before.before.before) c.reach-reached.ensures.cut c.if-cut-eq0.false c.row-words.ensures
 
 pub chain_spec : {M : Type 1} → statement M
 chain_spec =
@@ -122,27 +97,27 @@ chain_spec =
     (tie.spec
     invariant-loop
     decreases-loop
-    (λ c κs. let s = c.before.before.before.before.before in (s.requires.0.0, s.requires.0.2))
+    (λ c κs. (c.requires.0.0, c.requires.0.2))
     (λ c κs. search rules)
     loop-holds
-    (λ c. c.before.before.before.loop-step.invariant.0)
-    (λ c. c.before.before.before.loop-step.invariant.1.grows.bytes.same)
-    (λ c. c.before.before.before.loop-step.invariant.1.grows.words.same)
-    (λ c. walks-many c.before.before.before.loop-step.invariant.1 c.if-so_far-gt65535.true)
-    (λ e κs. steps-field (at e).loop-step.inv.1 (at e).loop-step.inv.1.within (bucket-inside (at e)))
+    (λ c. c.loop-step.invariant.0)
+    (λ c. c.loop-step.invariant.1.grows.bytes.same)
+    (λ c. c.loop-step.invariant.1.grows.words.same)
+    (λ c. walks-many c.loop-step.invariant.1 c.if-so_far-gt65535.true)
+    (λ e κs. steps-field e.loop-step.invariant.1 e.loop-step.invariant.1.within (bucket-inside e.before.before.before))
     (λ c. search rules)
-    (λ c. omega (arith, (at (turn c.before.before.before)).loop-step.inv.1.grows.icons))
+    (λ c. omega (arith, c.loop-step.invariant.1.grows.icons))
     meet-requires
     add-requires
-    (λ c. let e = c.before.before.before.before.before.before.before.before.before.before.before.before.before.before in omega (arith, below e, short (at e), met-few (start (at e)).args.cache.now (start (at e)).args.bucket))
+    (λ c. omega (arith, below c.before.before.before.before.before.before.before.before.before.before.before.before.before.before, short c.before.before.before.before.before.before.before.before.before.before.before.before.before.before.before.before.before, met-few c.args.cache.now c.args.bucket))
     (λ c. omega arith)
     loop-again
-    (λ c. c.before.before.before.loop-step.invariant.0)
-    (λ c. c.before.before.before.loop-step.invariant.1.grows.bytes.same)
-    (λ c. c.before.before.before.loop-step.invariant.1.grows.words.same)
+    (λ c. c.loop-step.invariant.0)
+    (λ c. c.loop-step.invariant.1.grows.bytes.same)
+    (λ c. c.loop-step.invariant.1.grows.words.same)
     returns-2
     row-requires
-    (λ c. c.before.before.before.before.before.before.before.loop-step.invariant.0)
-    (λ c. c.before.before.before.before.before.before.before.loop-step.invariant.1.grows.bytes.same)
+    (λ c. c.loop-step.invariant.0)
+    (λ c. c.loop-step.invariant.1.grows.bytes.same)
     (λ c. search rules)
     returns-3)

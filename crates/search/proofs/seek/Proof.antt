@@ -29,33 +29,26 @@ module _ (s name : List ℕ) (k f : ℕ) {a : Seen} where
 
 returns-2 : tie.Need-returns-then-cache-record
 returns-2 c =
-    let real = c.before.before in
-    at-broken _ _ _ _ c.nameless-then-cache-record.ensures (follow-outside Short _ _ _ real.before.u32_at-value.ensures real.if-value.false c.before.if-cache-record.true)
+    at-broken _ _ _ _ c.nameless-then-cache-record.ensures (follow-outside Short _ _ _ c.u32_at-value.ensures c.if-value.false c.if-cache-record.true)
 
 judge-requires : tie.Need-judge-fault-requires
 judge-requires c κs =
-    let pre = c.before.before.before.before.before.before.requires in
-    (pre.0, (c.before.if-cache-record.false, λ e. bears-home _ _ _ _ pre.1.1.1 (sym c.bears-bears.ensures ∙ e)))
+    let pre = c.requires in
+    (pre.0, (c.if-cache-record.false, λ e. bears-home _ _ _ _ pre.1.1.1 (sym c.bears-bears.ensures ∙ e)))
 
 returns-3 : tie.Need-returns-then-fault-ne0
 returns-3 c =
-    let judged = c.before.before.before in
-    let inside = judged.before.before in
-    let real = inside.before in
     at-broken _ _ _ _ c.nameless-then-fault-ne0.ensures
-    (follow-broken Short _ _ _ real.before.u32_at-value.ensures real.if-value.false inside.if-cache-record.false judged.judge-fault.ensures c.before.if-fault-ne0.true)
+    (follow-broken Short _ _ _ c.u32_at-value.ensures c.if-value.false c.if-cache-record.false c.judge-fault.ensures c.if-fault-ne0.true)
 
 returns-4 : tie.Need-returns
 returns-4 c =
-    let judged = c.before.before in
-    let inside = judged.before.before in
-    let real = inside.before in
     record {
-      next = sym (follow-record Short _ _ _ real.before.u32_at-value.ensures real.if-value.false inside.if-cache-record.false judged.judge-fault.ensures c.if-fault-ne0.false);
+      next = sym (follow-record Short _ _ _ c.u32_at-value.ensures c.if-value.false c.if-cache-record.false c.judge-fault.ensures c.if-fault-ne0.false);
       bears = λ r h.
-          let named = (record-valid Short _ _ _ (same_number (sym judged.judge-fault.ensures) ∙ c.if-fault-ne0.false)).named in
-          let q : real.before.u32_at-value.result ≡ r = cc in
-          judged.before.bears-bears.ensures ∙ rw (named, q);
+          let named = (record-valid Short _ _ _ (same_number (sym c.judge-fault.ensures) ∙ c.if-fault-ne0.false)).named in
+          let q : c.u32_at-value.result ≡ r = cc in
+          c.bears-bears.ensures ∙ rw (named, q);
     }
 
 pub seek_spec : {M : Type 1} → statement M
@@ -64,7 +57,7 @@ seek_spec =
     (tie.spec
     (λ c κs. search rules)
     (λ c κs. search rules)
-    (λ c. at-end _ _ _ _ c.nameless.ensures (follow-end Short _ _ _ c.before.before.u32_at-value.ensures c.before.if-value.true))
+    (λ c. at-end _ _ _ _ c.nameless.ensures (follow-end Short _ _ _ c.u32_at-value.ensures c.if-value.true))
     (λ c. search rules)
     (λ c. search rules)
     (λ c κs. search rules)

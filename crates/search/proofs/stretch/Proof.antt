@@ -31,55 +31,48 @@ decreases-loop cache t bucket name field₀ opened₀ stop field opened = stop -
 
 returns : tie.Need-returns-in_default invariant-loop decreases-loop
 returns c =
-    let step = c.before in
-    let (few, stands, none) = step.before.before.loop-record.invariant in
+    let (few, stands, none) = c.loop-record.invariant in
     record {
-      field = step.before.before.loop-record.field;
-      passed = step.before.before.loop-record.opened;
+      field = c.loop-record.field;
+      passed = c.loop-record.opened;
       stands = stands;
       few = few;
       none = none;
-      next = step.before.seek-seen.ensures.next;
-      opened = ap (λ n. step.before.before.loop-record.opened + n) step.opens-opened.ensures;
+      next = c.seek-seen.ensures.next;
+      opened = ap (λ n. c.loop-record.opened + n) c.opens-opened.ensures;
       met = λ r q b. absurd (false≢true b);
       unmet = λ r q b. absurd (⊎_elim (λ z. omega arith) (λ z. omega arith) (rw q at c.in-Record.keys2));
     }
 
 -- a turn that leads to a record: where it began, what its field leads to, and that it opens one
-abbrev turn : tie.In-Record invariant-loop decreases-loop → tie.At-loop-record invariant-loop decreases-loop
-turn c = c.before.before.before.before.before
-
-abbrev start : tie.In-Record invariant-loop decreases-loop → tie.Start invariant-loop decreases-loop
-start c = (turn c).before.before.before
-
 module _ (c : tie.In-Record invariant-loop decreases-loop) where
   abbrev met : ℕ
-  met = c.before.next-1.given.0.0
+  met = c.next-1.given.0.0
 
-  led : let a = (start c).args in follow Short a.cache.now a.bucket (turn c).loop-record.field ≡ Record met
-  led = sym c.before.before.before.before.seek-seen.ensures.next ∙ c.before.next-1.given.1
+  led : let a = c.args in follow Short a.cache.now a.bucket c.loop-record.field ≡ Record met
+  led = sym c.seek-seen.ensures.next ∙ c.next-1.given.1
 
-  opened : (turn c).loop-record.opened + c.before.before.before.opens-opened.result ≡ (turn c).loop-record.opened + 1
-  opened = ap (λ n. (turn c).loop-record.opened + n) (c.before.before.before.opens-opened.ensures ∙ ap opens c.before.next-1.given.1)
+  opened : c.loop-record.opened + c.opens-opened.result ≡ c.loop-record.opened + 1
+  opened = ap (λ n. c.loop-record.opened + n) (c.opens-opened.ensures ∙ ap opens c.next-1.given.1)
 
   bears : {r : ℕ} → ◌≡◌ {A = _} (Record met) (Record r)
-      → let a = (start c).args in
-      c.before.before.before.before.seek-seen.result.bears ≡ same_bytes (name_of a.cache.now r) a.name.now
-  bears q = c.before.before.before.before.seek-seen.ensures.bears _ (c.before.next-1.given.1 ∙ q)
+      → let a = c.args in
+      c.seek-seen.result.bears ≡ same_bytes (name_of a.cache.now r) a.name.now
+  bears q = c.seek-seen.ensures.bears _ (c.next-1.given.1 ∙ q)
 
-  small : length (start c).args.cache.now ≤ 16777216
-  small = omega (arith, valid-header (start c).requires.0)
+  small : length c.args.cache.now ≤ 16777216
+  small = omega (arith, valid-header c.requires.0)
 
   -- the answer, whether the record bears the name or is the last that may be looked at
-  tells : (b : Bool) → c.before.before.before.before.seek-seen.result.bears ≡ b → (b ≡ false → (turn c).loop-record.opened ≡ (start c).args.stop)
-      → let a = (start c).args in
+  tells : (b : Bool) → c.seek-seen.result.bears ≡ b → (b ≡ false → c.loop-record.opened ≡ c.args.stop)
+      → let a = c.args in
       SeeksTo a.cache.now a.name.now a.bucket a.stop
-      (record { opened = (turn c).loop-record.opened + c.before.before.before.opens-opened.result; next = Record met; bears = b })
+      (record { opened = c.loop-record.opened + c.opens-opened.result; next = Record met; bears = b })
   tells b known full =
-      let (few, stands, none) = (turn c).loop-record.invariant in
+      let (few, stands, none) = c.loop-record.invariant in
       record {
-        field = (turn c).loop-record.field;
-        passed = (turn c).loop-record.opened;
+        field = c.loop-record.field;
+        passed = c.loop-record.opened;
         stands = stands;
         few = few;
         none = none;
@@ -94,17 +87,15 @@ returns-2 c = tells c.before true c.if-seen.true (λ is. absurd (false≢true (s
 
 returns-3 : tie.Need-returns-then-stop-opened invariant-loop decreases-loop
 returns-3 c =
-    let told = c.before.before in
-    tells told false c.before.if-seen.false (λ is. omega (arith, opened told, c.if-stop-opened.true, (turn told).loop-record.invariant.0))
+    tells c.before.before false c.if-seen.false (λ is. omega (arith, opened c.before.before, c.if-stop-opened.true, c.loop-record.invariant.0))
 
 -- the record does not bear it, and may be passed
 loop-again : tie.Need-loop-record-preserved invariant-loop decreases-loop
 loop-again c =
-    let told = c.before.before in
-    let (few, stands, none) = (turn told).loop-record.invariant in
-    let other = other-unequal _ _ (sym (bears told refl) ∙ c.before.if-seen.false) in
-    let more = below_suc none (λ e. other (ap (name_of _) (leads-link stands (small told) (led told)) ∙ e)) in
-    (c.if-stop-opened.false, leads-on stands (small told) (led told) (opened told), λ m l. more m (omega (arith, opened told)))
+    let (few, stands, none) = c.loop-record.invariant in
+    let other = other-unequal _ _ (sym (bears c.before.before refl) ∙ c.if-seen.false) in
+    let more = below_suc none (λ e. other (ap (name_of _) (leads-link stands (small c.before.before) (led c.before.before)) ∙ e)) in
+    (c.if-stop-opened.false, leads-on stands (small c.before.before) (led c.before.before) (opened c.before.before), λ m l. more m (omega (arith, opened c.before.before)))
 
 pub stretch_spec : {M : Type 1} → statement M
 stretch_spec =
@@ -112,10 +103,10 @@ stretch_spec =
     (tie.spec
     invariant-loop
     decreases-loop
-    (λ c. let pre = c.before.before.requires in (pre.1.1.1.0, pre.1.1.0.0, pre.1.1.0.1))
-    (λ c κs. let pre = c.before.before.before.requires in (pre.0, (c.loop-record.invariant.1.inside, pre.1.0)))
+    (λ c. let pre = c.requires in (pre.1.1.1.0, pre.1.1.0.0, pre.1.1.0.1))
+    (λ c κs. let pre = c.requires in (pre.0, (c.loop-record.invariant.1.inside, pre.1.0)))
     (λ c κs. search rules)
-    (λ c. omega (arith, opens_one c.before.seek-seen.result.next, c.opens-opened.ensures, c.before.before.loop-record.invariant.0))
+    (λ c. omega (arith, opens_one c.seek-seen.result.next, c.opens-opened.ensures, c.loop-record.invariant.0))
     (λ c. search rules)
     returns
     returns-2

@@ -18,9 +18,6 @@ use Rattle.squeeze.specs.Laws.Whole.{lists, folders, empty-front, filled-same, f
 use Rattle.squeeze.proofs.fill.Statement.{statement}
 use Rattle.squeeze.proofs.fill.Tie as tie
 
-abbrev start : tie.After-clear-arg-1 → tie.Start
-start c = c.before.before.before.before.before.before.before.before.before
-
 -- where the parts begin, by the numbers at hand
 record Places (c : tie.Start) : Type 0 where
   pub table_is : 16 + 4 * c.args.t.buckets + 8 * c.args.sizes.icons ≡ table c.args.cache.now
@@ -48,111 +45,74 @@ places_of c =
 
 -- the table is cleared
 module _ (c : tie.After-clear) where
-  abbrev s : tie.Start
-  s = start c.before
-
-  filled₁ : let x = s.args.cache.now in Filled x s.args.out.now c.clear.new.0 (table x) (lists x) 0 (lists x)
+  filled₁ : let x = c.args.cache.now in Filled x c.args.out.now c.clear.new.0 (table x) (lists x) 0 (lists x)
   filled₁ =
-      let p = places_of s in
-      nothing_stored s.pre.3 (put_same _ (λ _. bytes 4 end_value) p.table_is s.pre.2.icons c.clear.ensures)
-
-abbrev cleared : tie.After-lists → tie.After-clear
-cleared c = c.before.before.before.before.before.before
+      let p = places_of c.before.before.before.before.before.before.before.before.before.before in
+      nothing_stored c.requires.3 (put_same _ (λ _. bytes 4 end_value) p.table_is c.requires.2.icons c.clear.ensures)
 
 -- the lists are stored
 module _ (c : tie.After-lists) where
-  abbrev s₂ : tie.Start
-  s₂ = s (cleared c)
-
-  filled₂ : let x = s₂.args.cache.now in (end : ℕ) × Filled x s₂.args.out.now c.lists.new.1.1.1.1.1.0 (table x) (lists x) (icons x) end
+  filled₂ : let x = c.args.cache.now in (end : ℕ) × Filled x c.args.out.now c.lists.new.1.1.1.1.1.0 (table x) (lists x) (icons x) end
   filled₂ =
-      let p = places_of s₂ in
-      let (end, h) = c.lists.ensures s₂.args.out.now (lists s₂.args.cache.now) (filled-same (sym p.table_is) (sym p.first-is) (filled₁ (cleared c))) in
-      (end, filled-all p.table_is s₂.pre.2.icons h)
-
-abbrev listed : tie.After-paths-texts → tie.After-lists
-listed c = c.before.before.before.before.before.before.before.before.before.before
+      let p = places_of c.before.before.before.before.before.before.before.before.before.before.before.before.before.before.before.before in
+      let (end, h) = c.lists.ensures c.args.out.now (lists c.args.cache.now) (filled-same (sym p.table_is) (sym p.first-is) (filled₁ c.before.before.before.before.before.before)) in
+      (end, filled-all p.table_is c.requires.2.icons h)
 
 -- the paths are put
 module _ (c : tie.After-paths-texts) where
-  abbrev s₃ : tie.Start
-  s₃ = s₂ (listed c)
-
-  pathed₃ : let x = s₃.args.cache.now in
-      Pathed x (listed c).lists.new.1.1.1.1.1.0 c.paths-texts.new.1.1.1.1.0 c.paths-texts.new.1.1.0 c.paths-texts.new.1.1.1.0 (folders x) (strings x) (directories x) c.paths-texts.result
-  pathed₃ = let p = places_of s₃ in pathed-same p.folders-is p.strings-is c.paths-texts.ensures
-
-abbrev pathed-of : tie.After-tables → tie.After-paths-texts
-pathed-of c = c.before.before.before.before.before.before.before.before
+  pathed₃ : let x = c.args.cache.now in
+      Pathed x c.lists.new.1.1.1.1.1.0 c.paths-texts.new.1.1.1.1.0 c.paths-texts.new.1.1.0 c.paths-texts.new.1.1.1.0 (folders x) (strings x) (directories x) c.paths-texts.result
+  pathed₃ = let p = places_of c.before.before.before.before.before.before.before.before.before.before.before.before.before.before.before.before.before.before.before.before.before.before.before.before.before.before in pathed-same p.folders-is p.strings-is c.paths-texts.ensures
 
 -- the header and the hash are put
 module _ (c : tie.After-tables) where
-  abbrev s₄ : tie.Start
-  s₄ = s₃ (pathed-of c)
-
-  headed₄ : let x = s₄.args.cache.now in c.tables.new.0 ≡ put (pathed-of c).paths-texts.new.1.1.1.1.0 0 (front (contents x) (buckets x) (places x) 0)
+  headed₄ : let x = c.args.cache.now in c.tables.new.0 ≡ put c.paths-texts.new.1.1.1.1.0 0 (front (contents x) (buckets x) (places x) 0)
   headed₄ =
-      let p = places_of s₄ in
-      let x = s₄.args.cache.now in
-      c.tables.ensures ∙ ap (put (pathed-of c).paths-texts.new.1.1.1.1.0 0) (empty-front x p.folders-is (same-buckets s₄.pre.0.tables))
+      let p = places_of c.before.before.before.before.before.before.before.before.before.before.before.before.before.before.before.before.before.before.before.before.before.before.before.before.before.before.before.before.before.before.before.before.before.before in
+      let x = c.args.cache.now in
+      c.tables.ensures ∙ ap (put c.paths-texts.new.1.1.1.1.0 0) (empty-front x p.folders-is (same-buckets c.requires.0.tables))
 
-  ready₄ : Ready s₄.args.cache.now c.tables.new.0
-  ready₄ = ready s₄.pre.3 (filled₂ (listed (pathed-of c))).1 (pathed₃ (pathed-of c)) headed₄
+  ready₄ : Ready c.args.cache.now c.tables.new.0
+  ready₄ = ready c.requires.3 (filled₂ c.before.before.before.before.before.before.before.before.before.before.before.before.before.before.before.before.before.before).1 (pathed₃ c.before.before.before.before.before.before.before.before) headed₄
 
 lists-requires : tie.Need-lists-requires
 lists-requires c κs =
-    let clear = c.before.before.before.before.before in
-    let x = s clear in
-    let p = places_of x in
-    let w = x.pre.1 in
-    let k = clear.clear.auto in (
-      (x.pre.0, omega (arith, w.index-wide), omega (arith, w.index-wide, w.places-wide), omega (arith, w.places-wide), w.marked),
-      (x.pre.2.icons, record { lent = x.args.out.now; at = lists x.args.cache.now; filled = filled-same (sym p.table_is) (sym p.first-is) (filled₁ clear) }),
+    let p = places_of c.before.before.before.before.before.before.before.before.before.before.before.before.before.before.before in
+    let w = c.requires.1 in
+    let k = c.clear.auto in (
+      (c.requires.0, omega (arith, w.index-wide), omega (arith, w.index-wide, w.places-wide), omega (arith, w.places-wide), w.marked),
+      (c.requires.2.icons, record { lent = c.args.out.now; at = lists c.args.cache.now; filled = filled-same (sym p.table_is) (sym p.first-is) (filled₁ c.before.before.before.before.before) }),
     )
 
 paths-requires : tie.Need-paths-texts-requires
 paths-requires c κs =
-    let l = c.before.before.before.before.before.before.before.before.before in
-    let x = s₂ l in
-    let p = places_of x in
-    let w = x.pre.1 in
-    let k = l.lists.auto in
-    (x.pre.0, omega (arith, w.index-wide, k), omega (arith, w.places-wide, k), omega (arith, p.folders-is, p.strings-is, p.short), omega (arith, p.strings-is, p.short))
+    let p = places_of c.before.before.before.before.before.before.before.before.before.before.before.before.before.before.before.before.before.before.before.before.before.before.before.before.before in
+    let w = c.requires.1 in
+    let k = c.lists.auto in
+    (c.requires.0, omega (arith, w.index-wide, k), omega (arith, w.places-wide, k), omega (arith, p.folders-is, p.strings-is, p.short), omega (arith, p.strings-is, p.short))
 
 tables-requires : tie.Need-tables-requires
 tables-requires c κs =
-    let q = c.before.before.before.before.before.before.before in
-    let x = s₃ q in
-    let p = places_of x in
-    let k = q.paths-texts.auto in
-    let j = (listed q).lists.auto in
-    let i = (cleared (listed q)).clear.auto in
+    let p = places_of c.before.before.before.before.before.before.before.before.before.before.before.before.before.before.before.before.before.before.before.before.before.before.before.before.before.before.before.before.before.before.before.before.before in
+    let k = c.paths-texts.auto in
+    let j = c.lists.auto in
+    let i = c.clear.auto in
     (omega (arith, p.first-is, p.folders-is, p.room, k, j, i), omega (arith, p.first-is, p.folders-is, p.strings-is, p.short), omega (arith, p.folders-is, p.strings-is, p.short))
 
 records-requires : tie.Need-records-requires
 records-requires c κs =
-    let h = c.before.before.before.before.before in
-    let q = pathed-of h in
-    let x = s₄ h in
-    let w = x.pre.1 in
-    let few = (pathed₃ q).most in
-    let v = valid-header x.pre.0.tables in
-    let k = q.paths-texts.kept in
-    let j = (listed q).lists.kept in (
-      (x.pre.0, w.marked, omega (arith, w.index-wide, k, j, few, v), omega (arith, w.places-wide, k, j, few, v)),
-      (((pathed₃ q).known, (pathed₃ q).ends), (x.pre.2.icons, ready₄ h)),
+    let w = c.requires.1 in
+    let few = (pathed₃ c.before.before.before.before.before.before.before.before.before.before.before).most in
+    let v = valid-header c.requires.0.tables in
+    let k = c.paths-texts.kept in
+    let j = c.lists.kept in (
+      (c.requires.0, w.marked, omega (arith, w.index-wide, k, j, few, v), omega (arith, w.places-wide, k, j, few, v)),
+      (((pathed₃ c.before.before.before.before.before.before.before.before.before.before.before).known, (pathed₃ c.before.before.before.before.before.before.before.before.before.before.before).ends), (c.requires.2.icons, ready₄ c.before.before.before)),
     )
-
-abbrev headed-of : tie.After-records → tie.After-tables
-headed-of c = c.before.before.before.before.before.before
 
 returns : tie.Need-returns
 returns c =
-    let r = c.before.before in
-    let h = headed-of r in
-    let q = pathed-of h in
-    let x = s₄ h in
-    squeezed-whole x.pre.3 (filled₂ (listed q)).1 (pathed₃ q) (headed₄ h) (r.«records».ensures ∙ ap (recorded x.args.cache.now h.tables.last.0) x.pre.2.icons)
+    squeezed-whole c.requires.3 (filled₂ c.before.before.before.before.before.before.before.before.before.before.before.before.before.before.before.before.before.before.before.before.before.before.before.before).1 (pathed₃ c.before.before.before.before.before.before.before.before.before.before.before.before.before.before) (headed₄ c.before.before.before.before.before.before) (c.«records».ensures ∙ ap (recorded c.args.cache.now c.tables.last.0) c.requires.2.icons)
 
 pub fill_spec : {M : Type 1} → statement M
 fill_spec =
@@ -172,12 +132,12 @@ fill_spec =
     (λ c. search rules)
     (λ c. search rules)
     (λ c. search rules)
-    (λ c κs. let x = start c in let p = places_of x in omega (arith, p.table_is, p.first-is, p.folders-is, p.room))
+    (λ c κs. let p = places_of c.before.before.before.before.before.before.before.before.before in omega (arith, p.table_is, p.first-is, p.folders-is, p.room))
     lists-requires
     paths-requires
     tables-requires
     records-requires
     (λ c. search rules)
     (λ c. search rules)
-    (λ c. let r = c.before.before in let h = headed-of r in let q = pathed-of h in omega (arith, r.«records».auto, h.tables.kept, q.paths-texts.kept, (listed q).lists.kept, (cleared (listed q)).clear.auto))
+    (λ c. omega (arith, c.«records».auto, c.tables.kept, c.paths-texts.kept, c.lists.kept, c.clear.auto))
     returns)

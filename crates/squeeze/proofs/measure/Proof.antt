@@ -17,59 +17,45 @@ use Rattle.squeeze_records.specs.Laws.Sizes.{all-strings}
 use Rattle.squeeze.proofs.measure.Statement.{statement}
 use Rattle.squeeze.proofs.measure.Tie as tie
 
-abbrev start : tie.After-paths-texts → tie.Start
-start c = c.before.before.before.before.before.before.before.before
-
 few : (c : tie.After-paths-texts) → (c.paths-texts.result.entries ≤ 65535) × (c.paths-texts.result.end ≤ 2 ^ 28)
 few c =
     let p = c.paths-texts.ensures in
-    let v = valid-header (start c).requires.0.tables in
+    let v = valid-header c.requires.0.tables in
     (omega (arith, p.most, v), omega (arith, p.few, v))
-
-abbrev pathed : tie.After-measure-named → tie.After-paths-texts
-pathed c = c.before.before.before.before.before.before.before.before
 
 measure-requires : tie.Need-measure-named-requires
 measure-requires c κs =
-    let p = c.before.before.before.before.before.before.before in
-    let s = start p in (
-      (s.pre.0, s.pre.1.marked),
-      (omega (arith, (few p).0, s.pre.1.index-wide, p.paths-texts.auto), omega (arith, (few p).0, s.pre.1.places-wide, p.paths-texts.auto), omega (arith, (few p).1)),
+    (
+      (c.requires.0, c.requires.1.marked),
+      (omega (arith, (few c.before.before.before.before.before).0, c.requires.1.index-wide, c.paths-texts.auto), omega (arith, (few c.before.before.before.before.before).0, c.requires.1.places-wide, c.paths-texts.auto), omega (arith, (few c.before.before.before.before.before).1)),
     )
 
 measure-requires-2 : tie.Need-measure-requires
 measure-requires-2 c κs =
-    let m = c.before.before in
-    let p = pathed m in
-    let s = start p in
-    let k = p.paths-texts.kept in
-    let w = s.pre.1 in (
-      (s.pre.0, omega (arith, w.index-wide, k), omega (arith, w.index-wide, w.places-wide, k), omega (arith, w.places-wide, k), w.marked),
-      m.measure-named.ensures.icons,
+    let k = c.paths-texts.kept in
+    let w = c.requires.1 in (
+      (c.requires.0, omega (arith, w.index-wide, k), omega (arith, w.index-wide, w.places-wide, k), omega (arith, w.places-wide, k), w.marked),
+      c.measure-named.ensures.icons,
     )
 
 returns : tie.Need-returns
 returns c =
-    let l = c.before.before.before.before in
-    let m = l.before.before.before in
-    let p = pathed m in
-    let s = start p in
-    let t = s.args.cache.now in
-    let e = m.measure-named.ensures in
-    let acc = s.pre.0.accepted in
-    let v = valid-header s.pre.0.tables in
+    let t = c.args.cache.now in
+    let e = c.measure-named.ensures in
+    let acc = c.requires.0.accepted in
+    let v = valid-header c.requires.0.tables in
     let icons : length (contents t).icons ≤ 2 ^ 24 = omega (arith, icons-few acc, v) in
     let short : length t ≤ 2 ^ 24 = omega (arith, v) in
     record {
       icons = e.icons;
-      lists = l.measure.ensures;
+      lists = c.measure.ensures;
       strings =
-          e.ends 0 p.paths-texts.ensures.known p.paths-texts.ensures.ends ∙ zero-add _
+          e.ends 0 c.paths-texts.ensures.known c.paths-texts.ensures.ends ∙ zero-add _
           ∙ ap (λ n. length (strings_up_to t (string_of t n))) e.icons ∙ ap length (sym (all-strings t));
       few = (
         omega (arith, e.icons, icons),
-        omega (arith, l.measure.ensures, lists-few acc short icons, distinct-all (nth_list (contents t)) (length (contents t).icons)),
-        omega (arith, e.few, (few p).1, e.icons, icons),
+        omega (arith, c.measure.ensures, lists-few acc short icons, distinct-all (nth_list (contents t)) (length (contents t).icons)),
+        omega (arith, e.few, (few c.before.before.before.before.before.before.before.before.before.before.before.before.before).1, e.icons, icons),
       );
     }
 

@@ -17,53 +17,37 @@ use Rattle.squeeze.proofs.squeeze.Tie as tie
 
 returns : tie.Need-returns-then-check-ne0
 returns c =
-    let checked = c.before.before.before in
-    let told = check-refuses _ _ checked.check_short-check.ensures.0 c.before.if-check-ne0.true in
+    let told = check-refuses _ _ c.check_short-check.ensures.0 c.if-check-ne0.true in
     (c.refusal.ensures ∙ told.0, told.1)
 
-abbrev start : tie.Else-check-ne0 → tie.Start
-start c = c.before.before.before.before.before
-
-accepted : (c : tie.Else-check-ne0) → Accepted Short (start c).args.cache.now
-accepted c = c.before.before.check_short-check.ensures.1.0.accepted.0 c.if-check-ne0.false
+accepted : (c : tie.Else-check-ne0) → Accepted Short c.args.cache.now
+accepted c = c.check_short-check.ensures.1.0.accepted.0 c.if-check-ne0.false
 
 -- the tables of an accepted cache
-sound : (c : tie.After-read-t) → Sound (start c.before).args.cache.now c.read-t.result
+sound : (c : tie.After-read-t) → Sound c.args.cache.now c.read-t.result
 sound c = record { tables = c.read-t.ensures; accepted = accepted c.before }
 
 returns-2 : tie.Need-returns-then-t-gt4096
 returns-2 c =
-    let many = c.before in
-    let read = many.before.before in
-    let s = start read.before in
-    let told = buckets-refused s.args.cache.now s.args.squeezed.now (sound-checked (sound read)) (omega (arith, same-buckets read.read-t.ensures, many.if-t-gt4096.true)) in
+    let told = buckets-refused c.args.cache.now c.args.squeezed.now (sound-checked (sound c.before.before.before)) (omega (arith, same-buckets c.read-t.ensures, c.if-t-gt4096.true)) in
     (c.refusal-then-t-gt4096.ensures ∙ told.0, told.1)
 
 returns-3 : tie.Need-returns-then-fault-ne0
 returns-3 c =
-    let broken = c.before in
-    let judged = broken.before.before in
-    let few = judged.before in
-    let read = few.before.before in
-    let s = start read.before in
-    let told = data-refused s.args.cache.now s.args.squeezed.now (sound-checked (sound read)) (omega (arith, same-buckets read.read-t.ensures, few.if-t-gt4096.false)) judged.image_data-fault.ensures broken.if-fault-ne0.true in
+    let told = data-refused c.args.cache.now c.args.squeezed.now (sound-checked (sound c.before.before.before.before.before.before)) (omega (arith, same-buckets c.read-t.ensures, c.if-t-gt4096.false)) c.image_data-fault.ensures c.if-fault-ne0.true in
     (c.refusal-then-fault-ne0.ensures ∙ told.0, told.1)
 
 rewrite-requires : tie.Need-rewrite-requires
 rewrite-requires c κs =
-    let marked = c.before.before.before.before.before.before in
-    let plain = c.before.before.before.before.before.before.before.before.before in
-    let judged = plain.before.before in
-    let few = judged.before in
-    let read = few.before.before in (
-      sound read,
+    (
+      sound c.before.before.before.before.before.before.before.before.before.before.before.before.before.before,
       record {
-        index-wide = omega (arith, length-replicate {A = ℕ} 65536 0, marked.mark_repeated.auto);
+        index-wide = omega (arith, length-replicate {A = ℕ} 65536 0, c.mark_repeated.auto);
         places-wide = length-replicate {A = ℕ} 65536 0;
-        marked = marked.mark_repeated.ensures (zeros-unmarked 30720);
+        c = c.mark_repeated.ensures (zeros-unmarked 30720);
       },
-      omega (arith, same-buckets read.read-t.ensures, few.if-t-gt4096.false),
-      sym (same_number judged.image_data-fault.ensures) ∙ plain.if-fault-ne0.false,
+      omega (arith, same-buckets c.read-t.ensures, c.if-t-gt4096.false),
+      sym (same_number c.image_data-fault.ensures) ∙ c.if-fault-ne0.false,
     )
 
 pub squeeze_spec : {M : Type 1} → statement M
@@ -87,4 +71,4 @@ squeeze_spec =
     (λ c. search rules)
     rewrite-requires
     (λ c. search rules)
-    (λ c. c.before.before.before.before.rewrite.ensures))
+    (λ c. c.rewrite.ensures))

@@ -18,15 +18,13 @@ decreases-loop cache m at left₀ here₀ left here = left
 
 returns : tie.Need-returns-then-u32_at-ne0 invariant-loop decreases-loop
 returns c =
-    let l = c.before.before.before in
-    let broken = unless-broken _ 25 l.loop-left.here (ne_eqb _ _ (λ z. c.if-u32_at-ne0.true (c.before.u32_at.ensures ∙ z))) in
-    sym (first-stop (plain_fault _) (step_on 8) _ _ (omega arith) (λ z. omega (arith, same_number broken)) ∙ broken) ∙ l.loop-left.invariant.1
+    let broken = unless-broken _ 25 c.loop-left.here (ne_eqb _ _ (λ z. c.if-u32_at-ne0.true (c.u32_at.ensures ∙ z))) in
+    sym (first-stop (plain_fault _) (step_on 8) _ _ (omega arith) (λ z. omega (arith, same_number broken)) ∙ broken) ∙ c.loop-left.invariant.1
 
 loop-again : tie.Need-loop-left-preserved invariant-loop decreases-loop
 loop-again c =
-    let l = c.before.before.before in
-    let none = same_number (unless-kept _ 25 l.loop-left.here (eq-eqb _ _ (sym c.before.u32_at.ensures ∙ c.if-u32_at-ne0.false))) in
-    (omega arith, sym (first-go-on (plain_fault _) (step_on 8) _ _ (l.loop-left.left - 1) (omega arith) none) ∙ l.loop-left.invariant.1)
+    let none = same_number (unless-kept _ 25 c.loop-left.here (eq-eqb _ _ (sym c.u32_at.ensures ∙ c.if-u32_at-ne0.false))) in
+    (omega arith, sym (first-go-on (plain_fault _) (step_on 8) _ _ (c.loop-left.left - 1) (omega arith) none) ∙ c.loop-left.invariant.1)
 
 pub in_list_spec : {M : Type 1} → statement M
 in_list_spec =
@@ -42,4 +40,4 @@ in_list_spec =
     (λ c. omega arith)
     (λ c. omega arith)
     loop-again
-    (λ c. sym (first-end (plain_fault _) (step_on 8) _ _ (omega arith)) ∙ c.before.loop-left.invariant.1))
+    (λ c. sym (first-end (plain_fault _) (step_on 8) _ _ (omega arith)) ∙ c.loop-left.invariant.1))

@@ -10,18 +10,14 @@ use Rattle.squeeze_data.proofs.in_record.Tie as tie
 
 in-list-requires : tie.Need-in_list-requires
 in-list-requires c κs =
-    let list = c.before in
-    let s = list.before.before in
-    omega (arith, s.requires.listed, list.u32_at-list.ensures, c.u32_at-count.ensures ∙ ap (be 4 s.args.cache.now) list.u32_at-list.ensures)
+    omega (arith, c.requires.listed, c.u32_at-list.ensures, c.u32_at-count.ensures ∙ ap (be 4 c.args.cache.now) c.u32_at-list.ensures)
 
 returns : tie.Need-returns
 returns c =
-    let count = c.before in
-    let list = count.before in
-    let s = list.before.before.args.cache.now in
+    let s = c.args.cache.now in
     c.in_List.ensures
-    ∙ ap (λ n. images_data_fault n s (list.u32_at-list.result + 4)) count.u32_at-count.ensures
-    ∙ ap (λ p. images_data_fault (be 4 s p) s (p + 4)) list.u32_at-list.ensures
+    ∙ ap (λ n. images_data_fault n s (c.u32_at-list.result + 4)) c.u32_at-count.ensures
+    ∙ ap (λ p. images_data_fault (be 4 s p) s (p + 4)) c.u32_at-list.ensures
 
 pub in_record_spec : {M : Type 1} → statement M
 in_record_spec =

@@ -5,7 +5,7 @@ use Rattle.squeeze_icons.proofs.first.Statement.{statement}
 use Rattle.squeeze_icons.proofs.first.Tie as tie
 
 seek-requires : tie.Need-seek-requires
-seek-requires c κs = let s = c.before.before.before in (s.requires.0, s.requires.1, seeking-first c.first-cursor.ensures.0 c.first-cursor.ensures.1)
+seek-requires c κs = (c.requires.0, c.requires.1, seeking-first c.first-cursor.ensures.0 c.first-cursor.ensures.1)
 
 pub first_spec : {M : Type 1} → statement M
 first_spec = tie.close (tie.spec (λ c κs. search rules) seek-requires (λ c. search rules))

@@ -7,21 +7,15 @@ use Rattle.squeeze_icons.specs.Laws.Icon.{icon-at, icons-few}
 use Rattle.squeeze_icons.proofs.next.Statement.{statement}
 use Rattle.squeeze_icons.proofs.next.Tie as tie
 
-abbrev start : tie.After-struct_known-1 → tie.Start
-start c = c.before.before.before.before.before
-
 add-seek : tie.Need-overflow_add-icons
 add-seek c =
-    let s = start c in
-    let acc = s.pre.0.accepted in
-    omega (arith, (icon-at acc s.pre.2 s.pre.3).below, icons-few acc, valid-header s.pre.0.tables)
+    let acc = c.requires.0.accepted in
+    omega (arith, (icon-at acc c.requires.2 c.requires.3).below, icons-few acc, valid-header c.requires.0.tables)
 
 seek-requires : tie.Need-seek-requires
 seek-requires c κs =
-    let moved = c.before in
-    let s = start c in
-    let h = s.pre.2 in
-    (s.pre.0, s.pre.1, seeking-behind s.args.icons.at moved.next-cursor.ensures.0 moved.next-cursor.ensures.1 h.icons (h.stays s.pre.3))
+    let h = c.requires.2 in
+    (c.requires.0, c.requires.1, seeking-behind c.args.icons.at c.next-cursor.ensures.0 c.next-cursor.ensures.1 h.icons (h.stays c.requires.3))
 
 pub next_spec : {M : Type 1} → statement M
 next_spec = tie.close (tie.spec (λ c κs. search rules) add-seek seek-requires (λ c. search rules))

@@ -15,9 +15,7 @@ decreases-loop cache t repeated n icon₀ icon = n - icon.icon
 
 next-requires : tie.Need-next-icon-requires invariant-loop decreases-loop
 next-requires c κs =
-    let l = c.before.before in
-    let s = l.before.before.before.before in
-    (s.requires.0, s.requires.1, l.loop-icon.invariant.0, λ e. omega (arith, all-passed s.requires.0.accepted l.loop-icon.invariant.0 e, s.requires.2, c.loop-icon-test.true))
+    (c.requires.0, c.requires.1, c.loop-icon.invariant.0, λ e. omega (arith, all-passed c.requires.0.accepted c.loop-icon.invariant.0 e, c.requires.2, c.loop-icon-test.true))
 
 pub nth_spec : {M : Type 1} → statement M
 nth_spec =
@@ -30,4 +28,4 @@ nth_spec =
     next-requires
     (λ c. omega (arith, c.next-icon.ensures.1))
     (λ c. (c.next-icon.ensures.0, omega (arith, c.next-icon.ensures.1)))
-    (λ c. (c.before.before.loop-icon.invariant.0, omega (arith, c.before.before.loop-icon.invariant.1))))
+    (λ c. (c.loop-icon.invariant.0, omega (arith, c.loop-icon.invariant.1))))

@@ -20,34 +20,27 @@ decreases-loop cache t repeated icon at₀ at = length (all_records Short cache)
 
 stays-requires : tie.Need-stays-requires invariant-loop decreases-loop
 stays-requires c κs =
-    let l = c.before.before in
-    let s = l.before.before.before in
-    (s.requires.0, s.requires.1, l.loop-at.invariant.at, c.loop-at-test.true)
+    (c.requires.0, c.requires.1, c.loop-at.invariant.at, c.loop-at-test.true)
 
 returns : tie.Need-returns-then-stays invariant-loop decreases-loop
 returns c =
-    let h = c.before.before.before.before.loop-at.invariant in
-    (record { at = h.at; icons = h.icons; stays = λ real. sym c.before.stays.ensures ∙ c.if-stays.true }, refl)
+    let h = c.loop-at.invariant in
+    (record { at = h.at; icons = h.icons; stays = λ real. sym c.stays.ensures ∙ c.if-stays.true }, refl)
 
 next-requires : tie.Need-next-at-requires invariant-loop decreases-loop
 next-requires c κs =
-    let l = c.before.before.before.before in
-    (l.before.before.before.requires.0, l.loop-at.invariant.at, c.before.before.loop-at-test.true)
+    (c.requires.0, c.loop-at.invariant.at, c.loop-at-test.true)
 
 loop-less : tie.Need-loop-at-smaller invariant-loop decreases-loop
 loop-less c =
-    let turn = c.before.before.before in
-    let l = turn.before.before in
-    omega (arith, here-below l.before.before.before.requires.0.accepted (l.loop-at.invariant.at.here turn.loop-at-test.true), c.next-at.ensures.1)
+    omega (arith, here-below c.requires.0.accepted (c.loop-at.invariant.at.here c.loop-at-test.true), c.next-at.ensures.1)
 
 loop-again : tie.Need-loop-at-preserved invariant-loop decreases-loop
 loop-again c =
-    let gone = c.before in
-    let l = gone.before.before.before.before in
-    seeking-gone l.loop-at.at c.next-at.ensures.0 c.next-at.ensures.1 l.loop-at.invariant.icons (sym gone.before.stays.ensures ∙ gone.if-stays.false)
+    seeking-gone c.loop-at.at c.next-at.ensures.0 c.next-at.ensures.1 c.loop-at.invariant.icons (sym c.stays.ensures ∙ c.if-stays.false)
 
 returns-2 : tie.Need-returns invariant-loop decreases-loop
-returns-2 c = let h = c.before.before.loop-at.invariant in (record { at = h.at; icons = h.icons; stays = λ real. absurd (real c.loop-at-test.false) }, refl)
+returns-2 c = let h = c.loop-at.invariant in (record { at = h.at; icons = h.icons; stays = λ real. absurd (real c.loop-at-test.false) }, refl)
 
 pub seek_spec : {M : Type 1} → statement M
 seek_spec =

@@ -9,9 +9,8 @@ use Rattle.squeeze_icons.proofs.stays.Tie as tie
 
 returns : tie.Need-returns-then-number-repeated
 returns c =
-    let s = c.before.before.before.before in
-    let below = here-below s.requires.0.accepted (s.requires.2.here s.requires.3) in
-    ap not (c.is_marked.ensures ∙ s.requires.1 s.args.at.number below (omega arith)) ∙ not-not _
+    let below = here-below c.requires.0.accepted (c.requires.2.here c.requires.3) in
+    ap not (c.is_marked.ensures ∙ c.requires.1 c.args.at.number below (omega arith)) ∙ not-not _
 
 returns-2 : tie.Need-returns
 returns-2 c = ap not c.named_before.ensures ∙ not-not _

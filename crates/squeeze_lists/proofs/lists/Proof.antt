@@ -17,45 +17,31 @@ invariant-loop cache t index₀ places₀ repeated out₀ table at icons from₀
 abbrev decreases-loop : tie.decreases-loop-from
 decreases-loop cache t index₀ places₀ repeated out₀ table at icons from₀ end₀ index places out from end = icons - from
 
-abbrev start : tie.At-loop-from invariant-loop decreases-loop → tie.Start invariant-loop decreases-loop
-start c = c.before.before.before.before.before.before
-
 block-requires : tie.Need-block-shared-requires invariant-loop decreases-loop
 block-requires c κs =
-    let l = c.before.before.before.before in
-    let s = start l in
-    let i = l.loop-from.invariant in
-    let g = s.pre.1.1 in (
-      (s.pre.0.0, omega (arith, s.pre.0.1, i.0), omega (arith, s.pre.0.2, i.0, i.1), omega (arith, s.pre.0.3, i.1), s.pre.0.4),
+    let i = c.loop-from.invariant in
+    let g = c.requires.1.1 in (
+      (c.requires.0.0, omega (arith, c.requires.0.1, i.0), omega (arith, c.requires.0.2, i.0, i.1), omega (arith, c.requires.0.3, i.1), c.requires.0.4),
       record { lent = g.lent; at = g.at; filled = i.3 g.lent g.at g.filled },
     )
 
-abbrev went : tie.After-slice_known-in-loop-from-3-1 invariant-loop decreases-loop → tie.After-block-shared invariant-loop decreases-loop
-went c = c.before.before.before.before.before.before
-
-abbrev turn : tie.After-slice_known-in-loop-from-3-1 invariant-loop decreases-loop → tie.In-loop-from invariant-loop decreases-loop
-turn c = (went c).before.before.before.before
-
 loop-less : tie.Need-loop-from-smaller invariant-loop decreases-loop
 loop-less c =
-    let s = start (turn c).before in
-    omega (arith, (turn c).loop-from-test.true, (went c).block-shared.ensures.1 (omega (arith, (turn c).loop-from-test.true, s.pre.1.0)))
+    omega (arith, c.loop-from-test.true, c.block-shared.ensures.1 (omega (arith, c.loop-from-test.true, c.requires.1.0)))
 
 loop-again : tie.Need-loop-from-preserved invariant-loop decreases-loop
 loop-again c =
-    let l = (turn c).before in
-    let kept = (went c).block-shared.auto in (
-      omega (arith, l.loop-from.inv.0, kept),
-      omega (arith, l.loop-from.inv.1, kept),
-      omega (arith, l.loop-from.inv.2, kept),
-      λ lent place h. (went c).block-shared.ensures.0 lent place (l.loop-from.inv.3 lent place h),
+    let kept = c.block-shared.auto in (
+      omega (arith, c.loop-from.invariant.0, kept),
+      omega (arith, c.loop-from.invariant.1, kept),
+      omega (arith, c.loop-from.invariant.2, kept),
+      λ lent place h. c.block-shared.ensures.0 lent place (c.loop-from.invariant.3 lent place h),
     )
 
 returns : tie.Need-returns invariant-loop decreases-loop
 returns c lent place h =
-    let l = c.before in
-    let f = l.loop-from.invariant.3 lent place h in
-    (_, filled_at (omega (arith, f.within, c.loop-from-test.false, (start l).requires.1.0)) f)
+    let f = c.loop-from.invariant.3 lent place h in
+    (_, filled_at (omega (arith, f.within, c.loop-from-test.false, c.requires.1.0)) f)
 
 pub lists_spec : {M : Type 1} → statement M
 lists_spec =

@@ -9,18 +9,13 @@ use Rattle.squeeze_lists.proofs.store.Tie as tie
 
 returns : tie.Need-returns
 returns c =
-    let cell = c.before.before in
-    let added = cell.before.before.before.before.before.before in
-    let copied = added.before.before.before.before.before in
-    let read = copied.before.before in
-    let s = read.before.before.before.before.before in
-    let a = s.args in
+    let a = c.args in
     record {
       between = _;
-      list_put = copied.copy.ensures ∙ ap (λ n. put a.out.now a.shared.end (take (4 + 8 * n) (drop a.list a.cache.now))) read.u32_at.ensures;
-      adds = added.add.ensures;
-      cell-put = cell.put_u32.ensures;
-      becomes = ap (λ n. record { until = a.icon + 1; entries = a.shared.entries + 1; end = a.shared.end + (4 + 8 * n) }) read.u32_at.ensures;
+      list_put = c.copy.ensures ∙ ap (λ n. put a.out.now a.shared.end (take (4 + 8 * n) (drop a.list a.cache.now))) c.u32_at.ensures;
+      adds = c.add.ensures;
+      cell-put = c.put_u32.ensures;
+      becomes = ap (λ n. record { until = a.icon + 1; entries = a.shared.entries + 1; end = a.shared.end + (4 + 8 * n) }) c.u32_at.ensures;
     }
 
 pub store_spec : {M : Type 1} → statement M

@@ -6,11 +6,10 @@ use Rattle.squeeze_names.proofs.look.Tie as tie
 
 returns : tie.Need-returns-then-holds
 returns c before known =
-    let taken = c.before.before.before.before in
-    noted-is (taken.before.holds.ensures before known) taken.if-holds.true c.before.before.mark.ensures
+    noted-is (c.holds.ensures before known) c.if-holds.true c.mark.ensures
 
 returns-2 : tie.Need-returns-else-holds
-returns-2 c before known = noted-not (c.before.holds.ensures before known) c.if-holds.false
+returns-2 c before known = noted-not (c.holds.ensures before known) c.if-holds.false
 
 pub look_spec : {M : Type 1} → statement M
 look_spec = tie.close (tie.spec (λ c κs. search rules) (λ c κs. search rules) (λ c. search rules) returns returns-2)

@@ -34,25 +34,22 @@ unfolding ahead
 loop-holds c = (omega arith, refl, refl, λ before known. adds_none _ _ 0 (λ i l. absurd (omega arith)))
 
 -- the record at hand lies inside
-inside : (c : tie.In-loop-i invariant-loop decreases-loop) → let l = c.before in LeadsInside l.before.before.before.before.args.cache.now l.loop-i.at
-inside c = let l = c.before in rw l.loop-i.invariant.2 (l.before.before.before.before.requires.0 l.loop-i.i c.loop-i-test.true)
+inside : (c : tie.In-loop-i invariant-loop decreases-loop) → LeadsInside c.args.cache.now c.loop-i.at
+inside c = rw c.loop-i.invariant.2 (c.requires.0 c.loop-i.i c.loop-i-test.true)
 
-name-inside : (c : tie.After-u32_at-record invariant-loop decreases-loop) → c.u32_at-record.result + 12 ≤ length c.before.before.before.before.before.before.args.cache.now
+name-inside : (c : tie.After-u32_at-record invariant-loop decreases-loop) → c.u32_at-record.result + 12 ≤ length c.args.cache.now
 name-inside c = omega (arith, c.u32_at-record.ensures, (inside c.before).record-ends)
 
 loop-again : tie.Need-loop-i-preserved invariant-loop decreases-loop
 loop-again c =
-    let read = c.before.before.before.before in
-    let l = read.before.before.before in
-    let next = ahead-next _ _ l.loop-i.i l.loop-i.invariant.2 read.before.u32_at-record.ensures in
-    let named = name-read _ _ l.loop-i.i next read.u32_at-name.ensures in
-    (omega arith, omega arith, next, λ before known. adds-noted (l.loop-i.invariant.3 before known) (rw (← named) (c.before.before.look.ensures before known)))
+    let next = ahead-next _ _ c.loop-i.i c.loop-i.invariant.2 c.u32_at-record.ensures in
+    let named = name-read _ _ c.loop-i.i next c.u32_at-name.ensures in
+    (omega arith, omega arith, next, λ before known. adds-noted (c.loop-i.invariant.3 before known) (rw (← named) (c.look.ensures before known)))
 
 returns : tie.Need-returns invariant-loop decreases-loop
 returns c before known =
-    let l = c.before in
-    let all : l.before.before.before.before.args.n ≡ l.loop-i.i = omega arith in
-    rw all (l.loop-i.invariant.3 before known)
+    let all : c.args.n ≡ c.loop-i.i = omega arith in
+    rw all (c.loop-i.invariant.3 before known)
 
 pub look_for_spec : {M : Type 1} → statement M
 look_for_spec =

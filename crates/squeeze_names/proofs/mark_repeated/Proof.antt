@@ -24,48 +24,36 @@ loop-holds c = (omega arith, refl, refl, through-none _ _)
 
 count-requires : tie.Need-count-n-requires invariant-loop decreases-loop
 count-requires c κs =
-    let start = c.before.before.before.before.before.before in
-    (start.requires.0, omega (arith, same-buckets start.requires.0.tables))
+    (c.requires.0, omega (arith, same-buckets c.requires.0.tables))
 
 -- the chain at hand
 module _ (c : tie.After-bucket_field invariant-loop decreases-loop) where
-  abbrev l : tie.At-loop-bucket invariant-loop decreases-loop
-  l = c.before.before.before.before
+  below : c.loop-bucket.bucket < buckets c.args.cache.now
+  below = omega (arith, same-buckets c.requires.0.tables, c.loop-bucket-test.true)
 
-  abbrev start : tie.Start invariant-loop decreases-loop
-  start = l.before.before.before.before
+  field_is : c.bucket_field.result ≡ bucket_field c.args.cache.now c.loop-bucket.bucket
+  field_is = c.bucket_field.ensures ∙ same-field c.requires.0.tables c.loop-bucket.bucket
 
-  below : l.loop-bucket.bucket < buckets start.args.cache.now
-  below = omega (arith, same-buckets start.pre.0.tables, c.before.before.loop-bucket-test.true)
-
-  field_is : c.bucket_field.result ≡ bucket_field start.args.cache.now l.loop-bucket.bucket
-  field_is = c.bucket_field.ensures ∙ same-field start.pre.0.tables l.loop-bucket.bucket
-
-  few : l.loop-bucket.number + c.before.count-n.result < 2 ^ 62
-  few = number-few start.pre.0 below c.before.count-n.ensures l.loop-bucket.inv.3.passed
+  few : c.loop-bucket.number + c.count-n.result < 2 ^ 62
+  few = number-few c.requires.0 below c.count-n.ensures c.loop-bucket.invariant.3.passed
 
 chain-requires : tie.Need-chain-requires invariant-loop decreases-loop
 chain-requires c κs =
-    let at = c.before.before in
-    let s = start at in (
-      chain-inside _ _ at.before.count-n.ensures (field_is at) (omega (arith, field_is at, field-inside s.pre.0.tables (l at).loop-bucket.bucket (below at))),
+    (
+      chain-inside _ _ c.count-n.ensures (field_is c.before.before) (omega (arith, field_is c.before.before, field-inside c.requires.0.tables c.loop-bucket.bucket (below c.before.before))),
       omega arith,
-      omega (arith, s.pre.1),
-      few at,
+      omega (arith, c.requires.1),
+      few c.before.before,
     )
 
 loop-again : tie.Need-loop-bucket-preserved invariant-loop decreases-loop
 loop-again c =
-    let chain = c.before.before.before.before in
-    let at = chain.before.before.before in
-    (omega arith, omega arith, omega arith, through-next (start at).requires.0 (below at) at.before.count-n.ensures (field_is at) (l at).loop-bucket.invariant.3 chain.chain.ensures)
+    (omega arith, omega arith, omega arith, through-next c.requires.0 (below c.before.before.before.before.before.before.before) c.count-n.ensures (field_is c.before.before.before.before.before.before.before) c.loop-bucket.invariant.3 c.chain.ensures)
 
 returns : tie.Need-returns invariant-loop decreases-loop
 returns c none =
-    let l = c.before.before in
-    let start = l.before.before.before.before in
-    let all : l.loop-bucket.bucket ≡ buckets start.args.cache.now = omega (arith, same-buckets start.requires.0.tables) in
-    through-all start.requires.0 (rw all at l.loop-bucket.invariant.3) none
+    let all : c.loop-bucket.bucket ≡ buckets c.args.cache.now = omega (arith, same-buckets c.requires.0.tables) in
+    through-all c.requires.0 (rw all at c.loop-bucket.invariant.3) none
 
 pub mark_repeated_spec : {M : Type 1} → statement M
 mark_repeated_spec =

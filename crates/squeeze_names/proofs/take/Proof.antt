@@ -9,16 +9,15 @@ returns : tie.Need-returns-then-met
 returns c = (
   (omega arith, omega arith),
   λ before known.
-      let taken = c.before.before.before.before in
-      let asked = taken.before.before.before.met.ensures before known in
-      (noted-is asked.right taken.if-met.true c.before.before.mark.ensures, rw taken.if-met.true at asked.after),
+      let asked = c.met.ensures before known in
+      (noted-is asked.right c.if-met.true c.mark.ensures, rw c.if-met.true at asked.after),
 )
 
 returns-2 : tie.Need-returns
 returns-2 c = (
   (omega arith, omega arith),
   λ before known.
-      let asked = c.before.before.before.met.ensures before known in
+      let asked = c.met.ensures before known in
       (noted-not asked.right c.if-met.false, rw c.if-met.false at asked.after),
 )
 

@@ -27,31 +27,26 @@ loop-holds : tie.Need-loop-i-init invariant-loop decreases-loop
 loop-holds c = (omega arith, refl, refl, omega arith, taken_none _ _ _ _ _)
 
 returns : tie.Need-returns-then-entries-room invariant-loop decreases-loop
-returns c = let inv = c.before.before.loop-i.invariant in (inv.4, inv.3, inv.0, λ some. omega (arith, inv.4.few))
+returns c = let inv = c.loop-i.invariant in (inv.4, inv.3, inv.0, λ some. omega (arith, inv.4.few))
 
 -- the record at hand lies inside
 inside : (c : tie.Else-entries-room invariant-loop decreases-loop) →
-    let l = c.before.before in
-    LeadsInside l.before.before.before.before.args.cache.now l.loop-i.at
+    LeadsInside c.args.cache.now c.loop-i.at
 inside c =
-    let l = c.before.before in
-    rw l.loop-i.invariant.4.behind (l.before.before.before.before.requires.0 l.loop-i.i c.before.loop-i-test.true)
+    rw c.loop-i.invariant.4.behind (c.requires.0 c.loop-i.i c.loop-i-test.true)
 
-name-inside : (c : tie.After-u32_at-record invariant-loop decreases-loop) → c.u32_at-record.result + 12 ≤ length c.before.before.before.before.before.before.before.args.cache.now
+name-inside : (c : tie.After-u32_at-record invariant-loop decreases-loop) → c.u32_at-record.result + 12 ≤ length c.args.cache.now
 name-inside c = omega (arith, c.u32_at-record.ensures, (inside c.before).record-ends)
 
 loop-again : tie.Need-loop-i-preserved invariant-loop decreases-loop
 loop-again c =
-    let taken = c.before.before.before.before in
-    let read = taken.before.before.before in
-    let l = read.before.before.before.before in
-    let inv = l.loop-i.invariant in
-    let next = ahead-next _ _ l.loop-i.i inv.4.behind read.before.u32_at-record.ensures in
-    let (few, known) = taken.take-entries.ensures in
-    (omega arith, omega arith, omega arith, omega (arith, few.1), taken_more inv.4 next read.u32_at-name.ensures few.1 (known _ inv.4.known))
+    let inv = c.loop-i.invariant in
+    let next = ahead-next _ _ c.loop-i.i inv.4.behind c.u32_at-record.ensures in
+    let (few, known) = c.take-entries.ensures in
+    (omega arith, omega arith, omega arith, omega (arith, few.1), taken_more inv.4 next c.u32_at-name.ensures few.1 (known _ inv.4.known))
 
 returns-2 : tie.Need-returns invariant-loop decreases-loop
-returns-2 c = let inv = c.before.loop-i.invariant in (inv.4, inv.3, inv.0, λ some. omega arith)
+returns-2 c = let inv = c.loop-i.invariant in (inv.4, inv.3, inv.0, λ some. omega arith)
 
 pub take_in_spec : {M : Type 1} → statement M
 take_in_spec =

@@ -25,59 +25,48 @@ invariant-loop cache t index₀ places₀ out₀ table at n texts₀ field₀ i�
 abbrev decreases-loop : tie.decreases-loop-i
 decreases-loop cache t index₀ places₀ out₀ table at n texts₀ field₀ i₀ index places out texts field i = n - i
 
-abbrev start : tie.At-loop-i invariant-loop decreases-loop → tie.Start invariant-loop decreases-loop
-start c = c.before.before.before.before.before.before.before.before.before
-
-few : (c : tie.At-loop-i invariant-loop decreases-loop) → (start c).args.t.directories ≤ 65535
-few c = let s = start c in omega (arith, same-directories s.pre.0.tables, valid-header s.pre.0.tables)
+few : (c : tie.At-loop-i invariant-loop decreases-loop) → c.args.t.directories ≤ 65535
+few c = omega (arith, same-directories c.requires.0.tables, valid-header c.requires.0.tables)
 
 -- how far it has come, of the buffer that is lent
 pathed : (c : tie.At-loop-i invariant-loop decreases-loop)
-    → let s = start c in
-    Pathed s.args.cache.now s.args.out.now c.loop-i.out c.loop-i.index c.loop-i.places s.args.table s.args.at c.loop-i.i c.loop-i.texts
+    → Pathed c.args.cache.now c.args.out.now c.loop-i.out c.loop-i.index c.loop-i.places c.args.table c.args.at c.loop-i.i c.loop-i.texts
 pathed c =
-    let put = c.before.before.before in
-    c.loop-i.invariant.5 _ (puts-same (ap (bytes 4) (same-directories (start c).requires.0.tables)) put.long-field.ensures)
+    c.loop-i.invariant.5 _ (puts-same (ap (bytes 4) (same-directories c.requires.0.tables)) c.long-field.ensures)
 
 loop-holds : tie.Need-loop-i-init invariant-loop decreases-loop
 loop-holds c =
-    let put = c.before.before in
-    let s = put.before.before.before.before.before.before in (
+    (
       refl,
       refl,
       refl,
       omega arith,
-      omega (arith, put.long-field.ensures.next, bytes-length 4 s.args.t.directories),
-      λ lent a. pathed-none s.args.cache.now lent a,
+      omega (arith, c.long-field.ensures.next, bytes-length 4 c.args.t.directories),
+      λ lent a. pathed-none c.args.cache.now lent a,
     )
 
 path-requires : tie.Need-path-texts-requires invariant-loop decreases-loop
 path-requires c κs =
-    let l = c.before.before.before.before in
-    let s = start l in
-    let h = pathed l in (
-      (s.pre.0, omega (arith, same-directories s.pre.0.tables), h.most, omega (arith, l.loop-i.invariant.0, s.pre.1), omega (arith, l.loop-i.invariant.1, s.pre.2)),
-      (omega (arith, l.loop-i.invariant.4, few l, s.pre.3), omega (arith, h.few, few l, s.pre.4)),
+    let h = pathed c.before.before.before.before in (
+      (c.requires.0, omega (arith, same-directories c.requires.0.tables), h.most, omega (arith, c.loop-i.invariant.0, c.requires.1), omega (arith, c.loop-i.invariant.1, c.requires.2)),
+      (omega (arith, c.loop-i.invariant.4, few c.before.before.before.before, c.requires.3), omega (arith, h.few, few c.before.before.before.before, c.requires.4)),
     )
 
 loop-again : tie.Need-loop-i-preserved invariant-loop decreases-loop
 loop-again c =
-    let went = c.before.before.before.before.before.before in
-    let l = went.before.before.before.before.before in (
+    (
       omega arith,
       omega arith,
       omega arith,
       omega arith,
-      omega (arith, l.loop-i.invariant.4),
-      λ lent a. went.path-texts.ensures lent _ _ (l.loop-i.invariant.5 lent a) l.loop-i.invariant.4,
+      omega (arith, c.loop-i.invariant.4),
+      λ lent a. c.path-texts.ensures lent _ _ (c.loop-i.invariant.5 lent a) c.loop-i.invariant.4,
     )
 
 returns : tie.Need-returns invariant-loop decreases-loop
 returns c =
-    let l = c.before in
-    let s = start l in
-    let all : l.loop-i.i ≡ directories s.args.cache.now = omega (arith, l.loop-i.invariant.3, same-directories s.pre.0.tables) in
-    pathed-at all (pathed l)
+    let all : c.loop-i.i ≡ directories c.args.cache.now = omega (arith, c.loop-i.invariant.3, same-directories c.requires.0.tables) in
+    pathed-at all (pathed c.before)
 
 pub paths_spec : {M : Type 1} → statement M
 paths_spec =
@@ -88,8 +77,8 @@ paths_spec =
     (λ c κs. search rules)
     loop-holds
     path-requires
-    (λ c. let l = c.before.before.before.before.before.before.before.before.before.before.before in omega (arith, l.loop-i.invariant.4, few l, (start l).requires.3))
-    (λ c. let l = c.before.before.before.before.before.before.before.before.before.before.before in omega (arith, few l))
+    (λ c. omega (arith, c.loop-i.invariant.4, few c.before.before.before.before.before.before.before.before.before.before.before, c.requires.3))
+    (λ c. omega (arith, few c.before.before.before.before.before.before.before.before.before.before.before))
     (λ c. omega arith)
     loop-again
     (λ c. omega arith)

@@ -23,75 +23,50 @@ invariant-loop cache t index₀ again₀ repeated from bytes icon₀ counted₀ 
 abbrev decreases-loop : tie.decreases-loop-icon
 decreases-loop cache t index₀ again₀ repeated from bytes icon₀ counted₀ index again icon counted = length (contents cache).icons - icon.icon
 
-abbrev start : tie.At-loop-icon invariant-loop decreases-loop → tie.Start invariant-loop decreases-loop
-start c = c.before.before.before.before.before.before
-
 -- the icon at hand, and its list
 module _ (c : tie.In-loop-icon invariant-loop decreases-loop) where
-  abbrev l : tie.At-loop-icon invariant-loop decreases-loop
-  l = c.before.before
+  here : let x = c.loop-icon.icon in IconAt c.args.cache.now x.icon x.at.bucket x.at.«record»
+  here = icon-at c.requires.0.0.accepted c.loop-icon.invariant.2 c.loop-icon-test.true
 
-  here : let x = l.loop-icon.icon in IconAt (start l).args.cache.now x.icon x.at.bucket x.at.«record»
-  here = icon-at (start l).pre.0.0.accepted l.loop-icon.inv.2 c.loop-icon-test.true
+  icons : length (contents c.args.cache.now).icons ≤ 2 ^ 24
+  icons = omega (arith, icons-few c.requires.0.0.accepted, valid-header c.requires.0.0.tables)
 
-  icons : length (contents (start l).args.cache.now).icons ≤ 2 ^ 24
-  icons = let s = start l in omega (arith, icons-few s.pre.0.0.accepted, valid-header s.pre.0.0.tables)
-
-  few : l.loop-icon.counted.bytes ≤ 2 ^ 48
+  few : c.loop-icon.counted.bytes ≤ 2 ^ 48
   few =
-      let s = start l in
-      let short : length s.args.cache.now ≤ 2 ^ 24 = omega (arith, valid-header s.pre.0.0.tables) in
-      omega (arith, counts-few s.pre.1 l.loop-icon.inv.3 (omega (arith, here.below)), lists-few s.pre.0.0.accepted short icons)
+      let short : length c.args.cache.now ≤ 2 ^ 24 = omega (arith, valid-header c.requires.0.0.tables) in
+      omega (arith, counts-few c.requires.1 c.loop-icon.invariant.3 (omega (arith, here.below)), lists-few c.requires.0.0.accepted short icons)
 
 list : (c : tie.After-u32_at-list invariant-loop decreases-loop)
-    → let turn = c.before.before in
-    ListAt (start (l turn)).args.cache.now (l turn).loop-icon.icon.icon c.u32_at-list.result
+    → ListAt c.args.cache.now c.loop-icon.icon.icon c.u32_at-list.result
 list c =
-    let turn = c.before.before in
-    let s = start (l turn) in
-    let small : AreBytes s.args.cache.now = λ i. omega (arith, (l turn).before.before.before.before.before.shared_slice_known-1.given i) in
-    icon-list small (here turn) c.u32_at-list.ensures
+    let small : AreBytes c.args.cache.now = λ i. omega (arith, c.shared_slice_known-1.given i) in
+    icon-list small (here c.before.before) c.u32_at-list.ensures
 
 count-requires : tie.Need-count-counted-requires invariant-loop decreases-loop
 count-requires c κs =
-    let read = c.before.before in
-    let turn = read.before.before in
-    let s = start (l turn) in
-    let i = (l turn).loop-icon.invariant in (
-      (list read, omega (arith, s.pre.0.1, i.0), omega (arith, s.pre.0.2, i.0, i.1), omega (arith, s.pre.0.3, i.1), omega (arith, (here turn).below, icons turn), omega (arith, few turn)),
+    let i = c.loop-icon.invariant in (
+      (list c.before.before, omega (arith, c.requires.0.1, i.0), omega (arith, c.requires.0.2, i.0, i.1), omega (arith, c.requires.0.3, i.1), omega (arith, (here c.before.before.before.before).below, icons c.before.before.before.before), omega (arith, few c.before.before.before.before)),
       (_, _, i.3),
     )
 
 next-requires : tie.Need-next-icon-requires invariant-loop decreases-loop
 next-requires c κs =
-    let turn = c.before.before.before.before.before.before.before.before.before in
-    let s = start (l turn) in
-    (s.pre.0.0, s.pre.0.4, (l turn).loop-icon.invariant.2, turn.loop-icon-test.true)
-
-abbrev counting : tie.After-next-icon invariant-loop decreases-loop → tie.After-count-counted invariant-loop decreases-loop
-counting c = c.before.before.before.before.before
-
-abbrev turn-of : tie.After-next-icon invariant-loop decreases-loop → tie.In-loop-icon invariant-loop decreases-loop
-turn-of c = (counting c).before.before.before.before.before
+    (c.requires.0.0, c.requires.0.4, c.loop-icon.invariant.2, c.loop-icon-test.true)
 
 loop-less : tie.Need-loop-icon-smaller invariant-loop decreases-loop
-loop-less c = omega (arith, (here (turn-of c)).below, c.next-icon.ensures.1)
+loop-less c = omega (arith, (here c.before.before.before.before.before.before.before.before.before.before).below, c.next-icon.ensures.1)
 
 loop-again : tie.Need-loop-icon-preserved invariant-loop decreases-loop
 loop-again c =
-    let turn = turn-of c in
-    (omega arith, omega arith, c.next-icon.ensures.0, counts-at c.next-icon.ensures.1 ((counting c).count-counted.ensures _ _ (l turn).loop-icon.inv.3))
+    (omega arith, omega arith, c.next-icon.ensures.0, counts-at c.next-icon.ensures.1 (c.count-counted.ensures _ _ c.loop-icon.invariant.3))
 
 returns : tie.Need-returns invariant-loop decreases-loop
 returns c =
-    let x = c.before.before in
-    let s = start x in
-    counts-block s.pre.1 x.loop-icon.invariant.3 (all-passed s.pre.0.0.accepted x.loop-icon.invariant.2 c.loop-icon-test.false)
+    counts-block c.requires.1 c.loop-icon.invariant.3 (all-passed c.requires.0.0.accepted c.loop-icon.invariant.2 c.loop-icon-test.false)
 
 loop-holds : tie.Need-loop-icon-init invariant-loop decreases-loop
 loop-holds c =
-    let s = c.before.before.before.before.before in
-    (refl, refl, c.nth-icon.ensures.0, counts-at c.nth-icon.ensures.1 (counts-none _ _ _ s.args.from s.args.bytes))
+    (refl, refl, c.nth-icon.ensures.0, counts-at c.nth-icon.ensures.1 (counts-none _ _ _ c.args.from c.args.bytes))
 
 pub block_spec : {M : Type 1} → statement M
 block_spec =
@@ -99,7 +74,7 @@ block_spec =
     (tie.spec
     invariant-loop
     decreases-loop
-    (λ c κs. let s = c.before.before.before.before in (s.requires.0.0, s.requires.0.4, s.requires.1.within))
+    (λ c κs. (c.requires.0.0, c.requires.0.4, c.requires.1.within))
     loop-holds
     (λ c. search rules)
     (λ c. omega (arith, (here c.before).keeps.inside))

@@ -8,7 +8,7 @@ returns : tie.Need-returns-then-again-e-ne0
 returns c = record { first = λ none. absurd (c.if-again-e-ne0.true none); later = λ some. (refl, refl) }
 
 returns-2 : tie.Need-returns
-returns-2 c = record { first = λ none. (refl, refl); later = λ some. absurd (some c.before.if-again-e-ne0.false) }
+returns-2 c = record { first = λ none. (refl, refl); later = λ some. absurd (some c.if-again-e-ne0.false) }
 
 pub come_again_spec : {M : Type 1} → statement M
 come_again_spec =
@@ -19,6 +19,6 @@ come_again_spec =
     returns
     (λ c. search rules)
     (λ c. search rules)
-    (λ c. c.before.before.before.requires.2 c.before.if-again-e-ne0.false)
+    (λ c. c.requires.2 c.if-again-e-ne0.false)
     (λ c. search rules)
     returns-2)

@@ -13,79 +13,53 @@ use Rattle.squeeze_sizes.specs.Laws.Counting.{behind-some, counts-passed, counts
 use Rattle.squeeze_sizes.proofs.count.Statement.{statement}
 use Rattle.squeeze_sizes.proofs.count.Tie as tie
 
-abbrev read : tie.After-find-spot → tie.After-u32_at
-read c = c.before.before
-
-abbrev start : tie.After-find-spot → tie.Start
-start c = (read c).before.before.before.before
-
 -- the entry that it is
 module _ (c : tie.In-Found) where
-  abbrev found : tie.After-find-spot
-  found = c.before.before.before
+  is_found : c.find-spot.result ≡ Found c.spot-1.given.0.0
+  is_found = c.spot-1.given.1
 
-  is_found : found.find-spot.result ≡ Found c.before.spot-1.given.0.0
-  is_found = c.before.spot-1.given.1
+  below : c.spot-1.given.0.0 < c.args.counted.entries
+  below = found_below is_found c.find-spot.ensures.0
 
-  below : c.before.spot-1.given.0.0 < (start found).args.counted.entries
-  below = found_below is_found found.find-spot.ensures.0
+  room : c.spot-1.given.0.0 < length c.args.again.now
+  room = omega (arith, below, c.requires.0.2, c.requires.1.2.fits)
 
-  room : c.before.spot-1.given.0.0 < length (start found).args.again.now
-  room = let s = start found in omega (arith, below, s.pre.0.2, s.pre.1.2.fits)
-
-  same : entry (key_at Images (start found).args.cache.now) (start found).args.index.now c.before.spot-1.given.0.0 ≡ key_at Images (start found).args.cache.now (start found).args.list
-  same = let s = start found in found-entry _ _ _ _ is_found (found.find-spot.ensures.1 s.pre.1.2.known.known.rising)
+  same : entry (key_at Images c.args.cache.now) c.args.index.now c.spot-1.given.0.0 ≡ key_at Images c.args.cache.now c.args.list
+  same = found-entry _ _ _ _ is_found (c.find-spot.ensures.1 c.requires.1.2.known.known.rising)
 
 -- the entry that it would be
 module _ (c : tie.In-Missing) where
-  abbrev missed : tie.After-find-spot
-  missed = c.before.before.before
+  is-missing : c.find-spot.result ≡ Missing c.spot-in-Missing-1.given.0.0
+  is-missing = c.spot-in-Missing-1.given.1
 
-  is-missing : missed.find-spot.result ≡ Missing c.before.spot-in-Missing-1.given.0.0
-  is-missing = c.before.spot-in-Missing-1.given.1
-
-  within : c.before.spot-in-Missing-1.given.0.0 ≤ (start missed).args.counted.entries
-  within = missing-within is-missing missed.find-spot.ensures.0
+  within : c.spot-in-Missing-1.given.0.0 ≤ c.args.counted.entries
+  within = missing-within is-missing c.find-spot.ensures.0
 
 returns : tie.Need-returns-then-until-icon
 returns c first before h =
-    let told = c.before in
-    let s = start (found told) in
-    counts-known h s.pre.0.0 c.if-until-icon.true (below told) (same told)
+    counts-known h c.requires.0.0 c.if-until-icon.true (below c.before) (same c.before)
 
 returns-2 : tie.Need-returns-then-entries-index
 returns-2 c first before h =
-    let added = c.before.before in
-    let taking = added.before.before in
-    let told = taking.before.before in
-    let s = start (missed told) in
-    counts-new h s.pre.0.0 taking.before.if-until-icon-2.true (missing-between _ _ _ _ (is-missing told) ((missed told).find-spot.ensures.1 h.known.known.rising))
-    (within told) (omega arith) (omega (arith, s.pre.0.2)) added.insert.ensures (ap (λ n. s.args.counted.bytes + (4 + 8 * n)) (read (missed told)).u32_at.ensures)
+    counts-new h c.requires.0.0 c.if-until-icon-2.true (missing-between _ _ _ _ (is-missing c.before.before.before.before.before.before) (c.find-spot.ensures.1 h.known.known.rising))
+    (within c.before.before.before.before.before.before) (omega arith) (omega (arith, c.requires.0.2)) c.insert.ensures (ap (λ n. c.args.counted.bytes + (4 + 8 * n)) c.u32_at.ensures)
 
 come-again-requires : tie.Need-come_again-requires
 come-again-requires c κs =
-    let told = c.before.before in
-    let s = start (found told) in
-    (omega (arith, room told), omega (arith, s.pre.0.3), λ none. omega (arith, (read (found told)).u32_at.ensures, counts-enough s.pre.1.2 s.pre.0.0 (below told) (same told) none))
+    (omega (arith, room c.before.before), omega (arith, c.requires.0.3), λ none. omega (arith, c.u32_at.ensures, counts-enough c.requires.1.2 c.requires.0.0 (below c.before.before) (same c.before.before) none))
 
 returns-3 : tie.Need-returns-else-until-icon
 returns-3 c first before h =
-    let came = c.before.before in
-    let told = came.before.before.before in
-    let s = start (found told) in
-    counts-again h s.pre.0.0 (below told) (same told) (room told) (ap (λ n. 4 + 8 * n) (read (found told)).u32_at.ensures) came.come_again.ensures
+    counts-again h c.requires.0.0 (below c.before.before.before.before.before) (same c.before.before.before.before.before) (room c.before.before.before.before.before) (ap (λ n. 4 + 8 * n) c.u32_at.ensures) c.come_again.ensures
 
 returns-4 : tie.Need-returns-else-entries-index
 returns-4 c first before h =
-    let told = c.before.before in
-    let s = start (missed told) in
-    counts-passed h s.pre.0.0 (missing-between _ _ _ _ (is-missing told) ((missed told).find-spot.ensures.1 h.known.known.rising))
-    (omega (arith, h.most, c.if-entries-index.false, s.pre.0.1))
+    counts-passed h c.requires.0.0 (missing-between _ _ _ _ (is-missing c.before.before) (c.find-spot.ensures.1 h.known.known.rising))
+    (omega (arith, h.most, c.if-entries-index.false, c.requires.0.1))
 
 returns-5 : tie.Need-returns-else-until-icon-2
 returns-5 c first before h =
-    let told = c.before in
-    counts-passed h (start (missed told)).requires.0.0 (missing-between _ _ _ _ (is-missing told) ((missed told).find-spot.ensures.1 h.known.known.rising))
+    counts-passed h c.requires.0.0 (missing-between _ _ _ _ (is-missing c.before) (c.find-spot.ensures.1 h.known.known.rising))
     (behind-some h c.if-until-icon-2.false)
 
 pub count_spec : {M : Type 1} → statement M
@@ -103,9 +77,9 @@ count_spec =
     returns
     come-again-requires
     (λ c. search rules)
-    (λ c κs. let told = c.before.before.before in (within told, omega arith))
-    (λ c. let s = start (missed c.before.before.before.before.before.before) in omega (arith, s.pre.0.2, s.pre.0.3))
-    (λ c. let s = start (missed c.before.before.before.before.before.before) in omega (arith, s.pre.0.2))
+    (λ c κs. (within c.before.before.before, omega arith))
+    (λ c. omega (arith, c.requires.0.2, c.requires.0.3))
+    (λ c. omega (arith, c.requires.0.2))
     (λ c. search rules)
     (λ c. search rules)
     (λ c. search rules)

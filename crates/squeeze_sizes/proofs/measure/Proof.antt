@@ -15,34 +15,23 @@ invariant-loop cache t index₀ again₀ repeated icons from₀ bytes₀ index a
 abbrev decreases-loop : tie.decreases-loop-from
 decreases-loop cache t index₀ again₀ repeated icons from₀ bytes₀ index again from bytes = icons - from
 
-abbrev start : tie.At-loop-from invariant-loop decreases-loop → tie.Start invariant-loop decreases-loop
-start c = c.before.before.before.before.before
-
 block-requires : tie.Need-block-counted-requires invariant-loop decreases-loop
 block-requires c κs =
-    let l = c.before.before.before in
-    let s = start l in
-    let i = l.loop-from.invariant in (
-      (s.pre.0.0, omega (arith, s.pre.0.1, i.0), omega (arith, s.pre.0.2, i.0, i.1), omega (arith, s.pre.0.3, i.1), s.pre.0.4),
+    let i = c.loop-from.invariant in (
+      (c.requires.0.0, omega (arith, c.requires.0.1, i.0), omega (arith, c.requires.0.2, i.0, i.1), omega (arith, c.requires.0.3, i.1), c.requires.0.4),
       i.2,
     )
 
-abbrev went : tie.After-slice_known-in-loop-from-2-1 invariant-loop decreases-loop → tie.After-block-counted invariant-loop decreases-loop
-went c = c.before.before.before.before
-
 loop-less : tie.Need-loop-from-smaller invariant-loop decreases-loop
 loop-less c =
-    let turn = (went c).before.before.before in
-    let s = start turn.before in
-    omega (arith, turn.loop-from-test.taken, s.pre.1, (went c).block-counted.ensures.onward (omega (arith, turn.loop-from-test.taken, s.pre.1)))
+    omega (arith, c.loop-from-test.true, c.requires.1, c.block-counted.ensures.onward (omega (arith, c.loop-from-test.true, c.requires.1)))
 
 loop-again : tie.Need-loop-from-preserved invariant-loop decreases-loop
 loop-again c =
-    let l = (went c).before.before.before.before in
-    (omega arith, omega arith, counting-next l.loop-from.inv.2 (went c).block-counted.ensures)
+    (omega arith, omega arith, counting-next c.loop-from.invariant.2 c.block-counted.ensures)
 
 returns : tie.Need-returns invariant-loop decreases-loop
-returns c = let l = c.before in counting-all l.loop-from.invariant.2 (omega (arith, c.loop-from-test.false, (start l).requires.1))
+returns c = counting-all c.loop-from.invariant.2 (omega (arith, c.loop-from-test.false, c.requires.1))
 
 pub measure_spec : {M : Type 1} → statement M
 measure_spec =

@@ -25,64 +25,48 @@ invariant-loop cache t index places repeated texts icon₀ end₀ icon end =
 abbrev decreases-loop : tie.decreases-loop-icon
 decreases-loop cache t index places repeated texts icon₀ end₀ icon end = length (contents cache).icons - icon.icon
 
-abbrev start : tie.At-loop-icon invariant-loop decreases-loop → tie.Start invariant-loop decreases-loop
-start c = c.before.before.before.before.before.before
-
 -- the icon at hand
 module _ (c : tie.In-loop-icon invariant-loop decreases-loop) where
-  abbrev l : tie.At-loop-icon invariant-loop decreases-loop
-  l = c.before.before
+  here : let x = c.loop-icon.icon in IconAt c.args.cache.now x.icon x.at.bucket x.at.«record»
+  here = icon-at c.requires.0.0.accepted c.loop-icon.invariant.0 c.loop-icon-test.true
 
-  here : let x = l.loop-icon.icon in IconAt (start l).args.cache.now x.icon x.at.bucket x.at.«record»
-  here = icon-at (start l).pre.0.0.accepted l.loop-icon.inv.0 c.loop-icon-test.true
-
-  few : l.loop-icon.end < 2 ^ 40
-  few = let s = start l in omega (arith, l.loop-icon.inv.1, here.below, icons-few s.pre.0.0.accepted, valid-header s.pre.0.0.tables, s.pre.1.2)
+  few : c.loop-icon.end < 2 ^ 40
+  few = omega (arith, c.loop-icon.invariant.1, here.below, icons-few c.requires.0.0.accepted, valid-header c.requires.0.0.tables, c.requires.1.2)
 
 loop-holds : tie.Need-loop-icon-init invariant-loop decreases-loop
 loop-holds c =
-    let s = c.before.before.before.before.before in
     let none = c.first-icon.ensures.1 in (
       c.first-icon.ensures.0,
       omega arith,
-      λ at known e. e ∙ ap (λ i. at + length (strings_up_to s.args.cache.now i)) (sym (ap (string_of s.args.cache.now) none ∙ add-zero _)),
+      λ at known e. e ∙ ap (λ i. at + length (strings_up_to c.args.cache.now i)) (sym (ap (string_of c.args.cache.now) none ∙ add-zero _)),
     )
 
 store-requires : tie.Need-store-stored-requires invariant-loop decreases-loop
 store-requires c κs =
-    let turn = c.before.before in
-    let s = start (l turn) in
-    (s.pre.0.0.accepted, name-whole (here turn).keeps c.u32_at-name.ensures, s.pre.1.0, s.pre.1.1, omega (arith, few turn))
+    (c.requires.0.0.accepted, name-whole (here c.before.before).keeps c.u32_at-name.ensures, c.requires.1.0, c.requires.1.1, omega (arith, few c.before.before))
 
 next-requires : tie.Need-next-icon-requires invariant-loop decreases-loop
 next-requires c κs =
-    let turn = c.before.before.before in
-    let s = start (l turn) in
-    (s.pre.0.0, s.pre.0.1, (l turn).loop-icon.invariant.0, turn.loop-icon-test.true)
+    (c.requires.0.0, c.requires.0.1, c.loop-icon.invariant.0, c.loop-icon-test.true)
 
 loop-less : tie.Need-loop-icon-smaller invariant-loop decreases-loop
 loop-less c =
-    let turn = c.before.before.before.before in
-    omega (arith, (here turn).below, c.next-icon.ensures.1)
+    omega (arith, (here c.before.before.before.before).below, c.next-icon.ensures.1)
 
 loop-again : tie.Need-loop-icon-preserved invariant-loop decreases-loop
 loop-again c =
-    let stored = c.before in
-    let read = stored.before in
-    let turn = read.before.before in
-    let s = (start (l turn)).args.cache.now in
+    let s = c.args.cache.now in
     let one = c.next-icon.ensures.1 in (
       c.next-icon.ensures.0,
-      omega (arith, stored.store-stored.ensures.0, (l turn).loop-icon.invariant.1),
+      omega (arith, c.store-stored.ensures.0, c.loop-icon.invariant.1),
       λ at known e.
-          stored-end (stored.store-stored.ensures.1 at _ known (icon-name (here turn) read.u32_at-name.ensures)) ((l turn).loop-icon.invariant.2 at known e)
+          stored-end (c.store-stored.ensures.1 at _ known (icon-name (here c.before.before.before.before) c.u32_at-name.ensures)) (c.loop-icon.invariant.2 at known e)
           ∙ ap (λ i. at + length (strings_up_to s (string_of s i))) (sym one),
     )
 
 returns : tie.Need-returns invariant-loop decreases-loop
 returns c =
-    let x = c.before.before in
-    record { icons = all-passed (start x).requires.0.0.accepted x.loop-icon.invariant.0 c.loop-icon-test.false; few = x.loop-icon.invariant.1; ends = x.loop-icon.invariant.2 }
+    record { icons = all-passed c.requires.0.0.accepted c.loop-icon.invariant.0 c.loop-icon-test.false; few = c.loop-icon.invariant.1; ends = c.loop-icon.invariant.2 }
 
 pub measure_spec : {M : Type 1} → statement M
 measure_spec =

@@ -6,7 +6,7 @@ use Rattle.strings.proofs.asked.Tie as tie
 
 returns : tie.Need-returns
 unfolding allowed
-returns c = let read = c.before.read_name-read.ensures in (c.within.ensures _ _ refl read.0, read.1)
+returns c = let read = c.read_name-read.ensures in (c.within.ensures _ _ refl read.0, read.1)
 
 pub asked_spec : {M : Type 1} → statement M
 asked_spec = tie.close (tie.spec (λ c κs. search rules) (λ c κs. search rules) returns)

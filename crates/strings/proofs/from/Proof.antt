@@ -6,12 +6,12 @@ use Rattle.strings.proofs.from.Tie as tie
 
 returns : tie.Need-returns-then-at-cache
 returns c =
-    let a = c.before.before.args in
+    let a = c.args in
     let all : length (drop a.at a.cache.now) ≤ length a.cache.now - a.at = omega (arith, length-drop a.at a.cache.now) in
     take_all _ _ all
 
 returns-2 : tie.Need-returns-else-at-cache
-returns-2 c = let a = c.before.before.args in sym (drop_of_length-le a.cache.now {i = a.at} (omega arith))
+returns-2 c = let a = c.args in sym (drop_of_length-le a.cache.now {i = a.at} (omega arith))
 
 pub from_spec : {M : Type 1} → statement M
 from_spec =

@@ -7,16 +7,15 @@ use Rattle.strings.proofs.Tags.{tag-not-whole}
 use Rattle.strings.proofs.name_length.Statement.{statement}
 use Rattle.strings.proofs.name_length.Tie as tie
 
-extent-is : (c : tie.After-read_name-read) → let a = c.before.before.before.args in c.read_name-read.result.extent ≡ extent 255 (drop a.at a.cache.now)
-extent-is c = c.read_name-read.ensures.0 ∙ ap (extent 255) c.before.from-part.ensures
+extent-is : (c : tie.After-read_name-read) → let a = c.args in c.read_name-read.result.extent ≡ extent 255 (drop a.at a.cache.now)
+extent-is c = c.read_name-read.ensures.0 ∙ ap (extent 255) c.from-part.ensures
 
 returns : tie.Need-returns-in-Whole
-returns c = whole_length 255 _ _ (sym (extent-is c.before.before.before) ∙ c.before.extent-1.given.1)
+returns c = whole_length 255 _ _ (sym (extent-is c.before.before.before) ∙ c.extent-1.given.1)
 
 returns-2 : tie.Need-returns-in_default
 returns-2 c =
-    let read = c.before in
-    absurd (false≢true (sym (tag-not-whole _ c.in-Whole.keys2) ∙ ap is_whole (extent-is read) ∙ read.before.before.before.requires))
+    absurd (false≢true (sym (tag-not-whole _ c.in-Whole.keys2) ∙ ap is_whole (extent-is c.before) ∙ c.requires))
 
 pub name_length_spec : {M : Type 1} → statement M
 name_length_spec =

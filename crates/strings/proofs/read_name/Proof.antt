@@ -20,52 +20,46 @@ decreases-loop part hash₀ i₀ h i = length part - i
 
 loop-holds : tie.Need-loop-i-init invariant-loop decreases-loop
 loop-holds c =
-    let t = c.before.args.part.now in
+    let t = c.args.part.now in
     let small : get_or t 0 0 < 256 = omega (arith, c.shared_slice_known-1.given 0) in
     (omega arith, omega arith, omega arith, hash-from-none _ (rw (get_or-take 255 (string t) 0 0 (omega arith), string-first t) small))
 
 returns : tie.Need-returns-then-byte-eq0 invariant-loop decreases-loop
 unfolding hash_from
 returns c =
-    let l = c.before.before.before.before in
-    let t = l.before.before.args.part.now in
-    let stop = c.before.if-byte-eq0.true in (
-      c.ended.ensures ∙ extent-ended 255 t l.loop-i.i l.loop-i.invariant.2 (omega arith) (omega arith) stop,
-      rw (none_left 255 t l.loop-i.i stop) at l.loop-i.invariant.3,
+    let t = c.args.part.now in
+    let stop = c.if-byte-eq0.true in (
+      c.ended.ensures ∙ extent-ended 255 t c.loop-i.i c.loop-i.invariant.2 (omega arith) (omega arith) stop,
+      rw (none_left 255 t c.loop-i.i stop) at c.loop-i.invariant.3,
     )
 
 returns-2 : tie.Need-returns-then-i-eq255 invariant-loop decreases-loop
 unfolding hash_from
 returns-2 c =
-    let l = c.before.before.before.before in
-    let t = l.before.before.args.part.now in (
-      extent-long 255 t l.loop-i.i l.loop-i.invariant.2 c.if-i-eq255.true c.before.if-byte-eq0.false,
-      rw (none_within 255 t l.loop-i.i c.if-i-eq255.true) at l.loop-i.invariant.3,
+    let t = c.args.part.now in (
+      extent-long 255 t c.loop-i.i c.loop-i.invariant.2 c.if-i-eq255.true c.if-byte-eq0.false,
+      rw (none_within 255 t c.loop-i.i c.if-i-eq255.true) at c.loop-i.invariant.3,
     )
 
 loop-again : tie.Need-loop-i-preserved invariant-loop decreases-loop
 unfolding hash_from
 loop-again c =
-    let multiple = c.before.before in
-    let tested = multiple.before.before in
-    let l = tested.before.before.before in
-    let t = l.before.before.args.part.now in
-    let nz = tested.if-byte-eq0.false in (
+    let t = c.args.part.now in
+    let nz = c.if-byte-eq0.false in (
       omega arith,
       omega arith,
-      passed-next t l.loop-i.i l.loop-i.invariant.2 nz,
-      rw (c.wrapping_add_u32-hash.ensures, multiple.times31.ensures, c.before.signed.ensures, mod-add-mod)
-          (rw (one_less 255 t l.loop-i.i (omega arith) nz) at l.loop-i.invariant.3),
+      passed-next t c.loop-i.i c.loop-i.invariant.2 nz,
+      rw (c.wrapping_add_u32-hash.ensures, c.times31.ensures, c.signed.ensures, mod-add-mod)
+          (rw (one_less 255 t c.loop-i.i (omega arith) nz) at c.loop-i.invariant.3),
     )
 
 returns-3 : tie.Need-returns invariant-loop decreases-loop
 unfolding hash_from
 returns-3 c =
-    let l = c.before in
-    let t = l.before.before.args.part.now in
+    let t = c.args.part.now in
     let end = c.loop-i-test.false in (
-      extent-cut 255 t l.loop-i.i l.loop-i.invariant.2 (omega arith) end,
-      rw (none_left 255 t l.loop-i.i (get_or-eq_default t 0 end)) at l.loop-i.invariant.3,
+      extent-cut 255 t c.loop-i.i c.loop-i.invariant.2 (omega arith) end,
+      rw (none_left 255 t c.loop-i.i (get_or-eq_default t 0 end)) at c.loop-i.invariant.3,
     )
 
 pub read_name_spec : {M : Type 1} → statement M

@@ -9,10 +9,10 @@ use Rattle.strings.proofs.signed.Tie as tie
 
 returns : tie.Need-returns
 returns c =
-    let b = c.before.before.args.byte in
-    let raised = signed-raised b (omega (arith, c.before.before.well-formed.0)) in
-    let same = c.wrapping_sub_u32.ensures ∙ c.before.wrapping_add_u8-raised.ensures ∙ sym raised.1 in
-    taken-away 128 (signed b) c.wrapping_sub_u32.type-inv same ∙ mod-eq_of_lt raised.0
+    let b = c.args.byte in
+    let raised = signed-raised b (omega (arith, c.well_formed.0)) in
+    let same = c.wrapping_sub_u32.ensures ∙ c.wrapping_add_u8-raised.ensures ∙ sym raised.1 in
+    taken-away 128 (signed b) c.wrapping_sub_u32.type_inv same ∙ mod-eq_of_lt raised.0
 
 pub signed_spec : {M : Type 1} → statement M
 signed_spec =

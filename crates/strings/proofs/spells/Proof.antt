@@ -34,20 +34,17 @@ one_more : (s t : List ℕ) (i : ℕ) → i < length s → i < length t → take
 one_more s t i l g e q = rw (add-one, take-suc s i 0 l, take-suc t i 0 g, e, q)
 
 returns-2 : tie.Need-returns-then-part-i invariant-loop decreases-loop
-returns-2 c = otherwise _ _ (bytes-differ _ _ c.before.before.before.loop-i-test.true c.if-part-i.true)
+returns-2 c = otherwise _ _ (bytes-differ _ _ c.loop-i-test.true c.if-part-i.true)
 
 loop-again : tie.Need-loop-i-preserved invariant-loop decreases-loop
 loop-again c =
-    let l = c.before.before.before.before in
-    let a = l.before.before.args in
-    (omega arith, one_more a.part.now a.name.now l.loop-i.i (omega arith) (omega arith) l.loop-i.invariant.1 c.if-part-i.false)
+    let a = c.args in
+    (omega arith, one_more a.part.now a.name.now c.loop-i.i (omega arith) (omega arith) c.loop-i.invariant.1 c.if-part-i.false)
 
 returns-3 : tie.Need-returns invariant-loop decreases-loop
 returns-3 c =
-    let l = c.before.before in
-    let start = l.before.before in
-    let all : l.loop-i.i ≡ length start.args.name.now = omega arith in
-    decided _ _ start.requires l.before.if-part-end.false (rw all at l.loop-i.invariant.1 ∙ take-length _)
+    let all : c.loop-i.i ≡ length c.args.name.now = omega arith in
+    decided _ _ c.requires c.if-part-end.false (rw all at c.loop-i.invariant.1 ∙ take-length _)
 
 pub spells_spec : {M : Type 1} → statement M
 spells_spec =

@@ -6,7 +6,7 @@ use Rattle.strings.proofs.times31.Statement.{statement}
 use Rattle.strings.proofs.times31.Tie as tie
 
 returns : tie.Need-returns
-returns c = shifted-less-itself c.before.args.h c.wrapping_sub_u32.type-inv c.wrapping_sub_u32.ensures
+returns c = shifted-less-itself c.args.h c.wrapping_sub_u32.type_inv c.wrapping_sub_u32.ensures
 
 pub times31_spec : {M : Type 1} → statement M
 times31_spec = tie.close (tie.spec (λ c κs. search rules) returns)

@@ -30,17 +30,16 @@ rule-5 s e = rw e (count-test (ltb 0) 0 refl (list_inside s (buckets_at s) 4) (b
 
 -- what is left of the definition where rules 1 to 3 are kept, and where rule 4 is too
 abbrev buffer : tie.Else-not-valid_version → List ℕ
-buffer c = c.before.before.before.before.before.args.cache.now
+buffer c = c.args.cache.now
 
 past-3 : (c : tie.Else-not-valid_version) → header_fault (buffer c) ≡ (unless (valid_directories (buffer c)) 4 8 or_else unless (valid_buckets (buffer c)) 5 4)
 unfolding header_fault ◌or_else◌
 past-3 c =
-    let two = c.before.before in
-    simp (le-leb _ _ two.before.if-cache-lt12.false, le-leb _ _ two.if-cache-gt16777216.false, sym c.before.valid_version.ensures ∙ not-false _ c.if-not-valid_version.false)
+    simp (le-leb _ _ c.if-cache-lt12.false, le-leb _ _ c.if-cache-gt16777216.false, sym c.valid_version.ensures ∙ not-false _ c.if-not-valid_version.false)
 
 past-4 : (c : tie.Else-list_count-gt65535) → let s = buffer c.before.before in header_fault s ≡ unless (valid_buckets s) 5 4
 unfolding ◌or_else◌
-past-4 c = simp (past-3 c.before.before, rule-4 _ c.before.list_count.ensures, le-leb _ _ c.if-list_count-gt65535.false)
+past-4 c = simp (past-3 c.before.before, rule-4 _ c.list_count.ensures, le-leb _ _ c.if-list_count-gt65535.false)
 
 returns : tie.Need-returns-then-cache-lt12
 unfolding header_fault ◌or_else◌
@@ -48,23 +47,22 @@ returns c = simp (lt-leb _ _ c.if-cache-lt12.true)
 
 returns-2 : tie.Need-returns-then-cache-gt16777216
 unfolding header_fault ◌or_else◌
-returns-2 c = simp (le-leb _ _ c.before.if-cache-lt12.false, lt-leb _ _ c.if-cache-gt16777216.true)
+returns-2 c = simp (le-leb _ _ c.if-cache-lt12.false, lt-leb _ _ c.if-cache-gt16777216.true)
 
 returns-3 : tie.Need-returns-then-not-valid_version
 unfolding header_fault ◌or_else◌
 returns-3 c =
-    let two = c.before.before in
-    simp (le-leb _ _ two.before.if-cache-lt12.false, le-leb _ _ two.if-cache-gt16777216.false, sym c.before.valid_version.ensures ∙ not-true _ c.if-not-valid_version.true)
+    simp (le-leb _ _ c.if-cache-lt12.false, le-leb _ _ c.if-cache-gt16777216.false, sym c.valid_version.ensures ∙ not-true _ c.if-not-valid_version.true)
 
 returns-4 : tie.Need-returns-then-list_count-gt65535
 unfolding ◌or_else◌
-returns-4 c = simp (past-3 c.before.before, rule-4 _ c.before.list_count.ensures, lt-leb _ _ c.if-list_count-gt65535.true)
+returns-4 c = simp (past-3 c.before.before, rule-4 _ c.list_count.ensures, lt-leb _ _ c.if-list_count-gt65535.true)
 
 returns-5 : tie.Need-returns-then-list_count-eq0
-returns-5 c = simp (past-4 c.before.before, rule-5 _ c.before.list_count-2.ensures, le-ltb _ _ (le_of_eq c.if-list_count-eq0.true))
+returns-5 c = simp (past-4 c.before.before, rule-5 _ c.list_count-2.ensures, le-ltb _ _ (le_of_eq c.if-list_count-eq0.true))
 
 returns-6 : tie.Need-returns
-returns-6 c = simp (past-4 c.before.before, rule-5 _ c.before.list_count-2.ensures, lt-ltb _ _ (pos_of_ne-zero c.if-list_count-eq0.false))
+returns-6 c = simp (past-4 c.before.before, rule-5 _ c.list_count-2.ensures, lt-ltb _ _ (pos_of_ne-zero c.if-list_count-eq0.false))
 
 pub header_spec : {M : Type 1} → statement M
 header_spec =

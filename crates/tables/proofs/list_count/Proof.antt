@@ -9,15 +9,15 @@ use Rattle.tables.proofs.list_count.Tie as tie
 
 u32-at-requires-2 : tie.Need-u32_at-requires
 u32-at-requires-2 c κs =
-    let inside = sym c.before.list_inside.ensures ∙ c.if-list_inside.true in
-    omega (arith, list-ends c.before.before.before.before.args.cache.now c.before.before.u32_at-at.result 4 inside)
+    let inside = sym c.list_inside.ensures ∙ c.if-list_inside.true in
+    omega (arith, list-ends c.args.cache.now c.u32_at-at.result 4 inside)
 
 returns : tie.Need-returns-then-list_inside
 returns c =
-    simp (← c.before.before.before.u32_at-at.ensures, ← c.before.before.list_inside.ensures, c.before.if-list_inside.true, c.u32_at.ensures)
+    simp (← c.u32_at-at.ensures, ← c.list_inside.ensures, c.if-list_inside.true, c.u32_at.ensures)
 
 returns-2 : tie.Need-returns-else-list_inside
-returns-2 c = simp (← c.before.before.u32_at-at.ensures, ← c.before.list_inside.ensures, c.if-list_inside.false)
+returns-2 c = simp (← c.u32_at-at.ensures, ← c.list_inside.ensures, c.if-list_inside.false)
 
 pub list_count_spec : {M : Type 1} → statement M
 list_count_spec =

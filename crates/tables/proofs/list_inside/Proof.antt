@@ -10,17 +10,17 @@ use lib.ListN.{length}
 use Rattle.tables.proofs.list_inside.Statement.{statement}
 use Rattle.tables.proofs.list_inside.Tie as tie
 
-entries_fit : (c : tie.After-u32_at-count) → c.before.before.before.args.size * c.u32_at-count.result ≤ 2 ^ 35
-entries_fit c = mul-le-mul {n₂ = 8} {m₂ = 2 ^ 32} c.before.before.before.requires.1 (omega arith)
+entries_fit : (c : tie.After-u32_at-count) → c.args.size * c.u32_at-count.result ≤ 2 ^ 35
+entries_fit c = mul-le-mul {n₂ = 8} {m₂ = 2 ^ 32} c.requires.1 (omega arith)
 
 returns : tie.Need-returns-then-cache-at
 returns c =
-    let a = c.before.before.args in
+    let a = c.args in
     let outside : length a.cache.now < a.at + 4 = omega arith in
     simp (lt-leb _ _ outside)
 
 returns-2 : tie.Need-returns
-returns-2 c = simp (le-leb _ _ c.before.if-cache-at.false, c.u32_at-count.ensures)
+returns-2 c = simp (le-leb _ _ c.if-cache-at.false, c.u32_at-count.ensures)
 
 pub list_inside_spec : {M : Type 1} → statement M
 list_inside_spec =

@@ -32,74 +32,63 @@ judged-broken s i {v} e some = let more : v.number ≡ suc (v.number - 1) = omeg
 
 judged-kept : (s : List ℕ) (i : ℕ) {a n : ℕ} → path_fault s i ≡ no_fault → a ≡ be 4 s (path_field s i) → n ≡ length (path_of s i)
     → record { fault = no_fault; start = a; length = n } ≡ path_judged s i
-judged-kept s i e start end = rw (e, start, end)
+judged-kept s i e end = rw (e, start, end)
 
 -- the part that starts with the path, and the call's start from the place where the path was read
 abbrev part : tie.Start → List ℕ
 part c = path_part c.args.cache.now c.args.i
 
-abbrev start : tie.After-read_path-read → tie.Start
-start c = c.before.before.before.before.before
-
-field_is : (c : tie.After-path_field-field) → c.path_field-field.result ≡ path_field c.before.before.args.cache.now c.before.before.args.i
-field_is c = c.path_field-field.ensures ∙ ap (λ t. path_field_of t c.before.before.args.i) c.before.before.requires.0.tables
+field_is : (c : tie.After-path_field-field) → c.path_field-field.result ≡ path_field c.args.cache.now c.args.i
+field_is c = c.path_field-field.ensures ∙ ap (λ t. path_field_of t c.args.i) c.requires.0.tables
 
 start_is : (c : tie.After-u32_at-start)
-    → let a = c.before.before.before.args in c.u32_at-start.result ≡ be 4 a.cache.now (path_field a.cache.now a.i)
-start_is c = c.u32_at-start.ensures ∙ ap (be 4 c.before.before.before.args.cache.now) (field_is c.before)
+    → let a = c.args in c.u32_at-start.result ≡ be 4 a.cache.now (path_field a.cache.now a.i)
+start_is c = c.u32_at-start.ensures ∙ ap (be 4 c.args.cache.now) (field_is c.before)
 
 part-is : (c : tie.After-from-part) → c.from-part.result.now ≡ part c.before.before.before.before
-part-is c = c.from-part.ensures ∙ ap (λ n. drop n c.before.before.before.before.args.cache.now) (start_is c.before)
+part-is c = c.from-part.ensures ∙ ap (λ n. drop n c.args.cache.now) (start_is c.before)
 
-extent-is : (c : tie.After-read_path-read) → c.read_path-read.result.extent ≡ extent 1023 (part (start c))
+extent-is : (c : tie.After-read_path-read) → c.read_path-read.result.extent ≡ extent 1023 (part c.before.before.before.before.before)
 extent-is c = c.read_path-read.ensures.0 ∙ ap (extent 1023) (part-is c.before)
 
 -- in the arm of a whole path: where the path was read, what it is, and that its segments were read
 -- to its end
-abbrev read : tie.After-shared_slice_known-in-Whole-1 → tie.After-read_path-read
-read c = c.before.before.before.before
+told : (c : tie.After-shared_slice_known-in-Whole-1) → extent 1023 (part c.before.before.before.before.before.before.before.before.before) ≡ Whole c.extent-1.given.0.0
+told c = sym (extent-is c.before.before.before.before) ∙ c.extent-1.given.1
 
-told : (c : tie.After-shared_slice_known-in-Whole-1) → extent 1023 (part (start (read c))) ≡ Whole c.before.before.extent-1.given.0.0
-told c = sym (extent-is (read c)) ∙ c.before.before.extent-1.given.1
-
-whole : (c : tie.After-shared_slice_known-in-Whole-1) → is_whole (extent 1023 (part (start (read c)))) ≡ true
+whole : (c : tie.After-shared_slice_known-in-Whole-1) → is_whole (extent 1023 (part c.before.before.before.before.before.before.before.before.before)) ≡ true
 whole c = whole-is-whole 1023 _ _ (told c)
 
-segments-are : (c : tie.After-shared_slice_known-in-Whole-1) → (read c).read_path-read.result.valid_segments ≡ valid_segments (string (part (start (read c))))
-segments-are c = (read c).read_path-read.ensures.1 ∙ ap valid_segments (whole-within 1023 (part-is (read c).before) (whole c))
+segments-are : (c : tie.After-shared_slice_known-in-Whole-1) → c.read_path-read.result.valid_segments ≡ valid_segments (string (part c.before.before.before.before.before.before.before.before.before))
+segments-are c = c.read_path-read.ensures.1 ∙ ap valid_segments (whole-within 1023 (part-is c.before.before.before.before.before) (whole c))
 
 u32-at-requires : tie.Need-u32_at-start-requires
-u32-at-requires c κs = omega (arith, valid-header c.before.before.requires.0, field_is c)
+u32-at-requires c κs = omega (arith, valid-header c.requires.0, field_is c)
 
 shared-slice-read-if1 : tie.Need-bounds-part-0
-shared-slice-read-if1 c = omega (arith, whole-string 1023 _ (whole c), ap length (part-is (read c).before))
+shared-slice-read-if1 c = omega (arith, whole-string 1023 _ (whole c), ap length (part-is c.before.before.before.before.before))
 
 returns : tie.Need-returns-then-part-eq47
 returns c =
-    let from = (read c.before.before).before in
-    let slash = rw (part-is from) at c.before.if-part-eq47.true in
-    c.bad_path.ensures ∙ rw (field_is from.before.before) (judged-broken _ _ (path-absolute _ _ (whole c.before.before) slash) (λ z. omega arith))
+    let slash = rw (part-is c.before.before.before.before.before.before.before) at c.if-part-eq47.true in
+    c.bad_path.ensures ∙ rw (field_is c.before.before.before.before.before.before.before.before.before) (judged-broken _ _ (path-absolute _ _ (whole c.before.before) slash) (λ z. omega arith))
 
 returns-2 : tie.Need-returns-then-not-valid_segments
 returns-2 c =
-    let arm = c.before.before.before in
-    let from = (read arm).before in
-    let no_slash = rw (part-is from) at c.before.before.if-part-eq47.false in
-    let wrong = sym (segments-are arm) ∙ not-true _ c.before.if-not-valid_segments.true in
-    c.bad_path-then-not-valid_segments.ensures ∙ rw (field_is from.before.before) (judged-broken _ _ (path-segments _ _ (whole arm) no_slash wrong) (λ z. omega arith))
+    let no_slash = rw (part-is c.before.before.before.before.before.before.before.before) at c.if-part-eq47.false in
+    let wrong = sym (segments-are c.before.before.before) ∙ not-true _ c.if-not-valid_segments.true in
+    c.bad_path-then-not-valid_segments.ensures ∙ rw (field_is c.before.before.before.before.before.before.before.before.before.before) (judged-broken _ _ (path-segments _ _ (whole c.before.before.before) no_slash wrong) (λ z. omega arith))
 
 returns-3 : tie.Need-returns-else-not-valid_segments
 returns-3 c =
-    let arm = c.before.before in
-    let from = (read arm).before in
-    let no_slash = rw (part-is from) at c.before.if-part-eq47.false in
-    let all_valid = sym (segments-are arm) ∙ not-false _ c.if-not-valid_segments.false in
-    judged-kept _ _ (path-kept _ _ (whole arm) no_slash all_valid) (start_is from.before) (whole_length 1023 _ _ (told arm))
+    let no_slash = rw (part-is c.before.before.before.before.before.before.before) at c.if-part-eq47.false in
+    let all_valid = sym (segments-are c.before.before) ∙ not-false _ c.if-not-valid_segments.false in
+    judged-kept _ _ (path-kept _ _ (whole c.before.before) no_slash all_valid) (start_is c.before.before.before.before.before.before.before.before) (whole_length 1023 _ _ (told c.before.before))
 
 returns-4 : tie.Need-returns-in_default
 returns-4 c =
     let path-read = c.before.before in
-    let broken = ap is_whole (sym (extent-is path-read)) ∙ tag-not-whole _ c.before.in-Whole.keys2 in
+    let broken = ap is_whole (sym (extent-is path-read)) ∙ tag-not-whole _ c.in-Whole.keys2 in
     let at_field = ap (λ q. string_fault (extent 1023 (part (start path-read))) 6 q) (field_is path-read.before.before.before) in
     let judged = c.judge.ensures ∙ ap (λ e. string_fault e 6 path-read.before.before.before.path_field-field.result) (extent-is path-read) ∙ at_field in
     rw judged (judged-broken _ _ (path-not-whole _ _ broken) (string-broken _ _ _ broken))

@@ -22,32 +22,28 @@ loop-holds : tie.Need-loop-i-init invariant-loop decreases-loop
 loop-holds c = (search rules, rw sub-zero)
 
 path-requires : tie.Need-path-judged-requires invariant-loop decreases-loop
-path-requires c κs = (c.before.before.before.requires, omega (arith, same-directories c.before.before.before.requires))
+path-requires c κs = (c.requires, omega (arith, same-directories c.requires))
 
 -- the fault that a turn judges is that of the definition
 fault-is : (c : tie.After-path-judged invariant-loop decreases-loop)
-    → let l = c.before.before in c.path-judged.result.fault ≡ path_fault l.before.before.args.cache.now l.loop-i.i
+    → c.path-judged.result.fault ≡ path_fault c.args.cache.now c.loop-i.i
 fault-is c = ap (λ (p : JudgedPath). p.fault-1) c.path-judged.ensures
 
 returns : tie.Need-returns-then-fault-ne0 invariant-loop decreases-loop
 returns c =
-    let path = c.before.before.before in
-    let loop = path.before.before in
-    let judged = fault-is path in
+    let judged = fault-is c.before.before.before in
     judged
-    ∙ sym (first-stop _ _ _ _ (omega (arith, same-directories loop.before.before.requires, path.before.loop-i-test)) (rw judged at c.if-fault-ne0.true))
-    ∙ loop.loop-i.invariant.1
+    ∙ sym (first-stop _ _ _ _ (omega (arith, same-directories c.requires, c.loop-i-test)) (rw judged at c.if-fault-ne0.true))
+    ∙ c.loop-i.invariant.1
 
 loop-again : tie.Need-loop-i-preserved invariant-loop decreases-loop
 loop-again c =
-    let path = c.before.before.before in
-    let loop = path.before.before in
-    let count = same-directories loop.before.before.requires in
-    let kept = rw (fault-is path) at c.if-fault-ne0.false in
-    (omega (arith, path.before.loop-i-test), sym (first-go-on _ _ _ _ _ (omega (arith, path.before.loop-i-test)) kept) ∙ loop.loop-i.invariant.1)
+    let count = same-directories c.requires in
+    let kept = rw (fault-is c.before.before.before) at c.if-fault-ne0.false in
+    (omega (arith, c.loop-i-test), sym (first-go-on _ _ _ _ _ (omega (arith, c.loop-i-test)) kept) ∙ c.loop-i.invariant.1)
 
 returns-2 : tie.Need-returns invariant-loop decreases-loop
-returns-2 c = sym (first-end _ _ _ _ (omega (arith, same-directories c.before.before.before.requires))) ∙ c.before.loop-i.invariant.1
+returns-2 c = sym (first-end _ _ _ _ (omega (arith, same-directories c.requires))) ∙ c.loop-i.invariant.1
 
 pub paths_spec : {M : Type 1} → statement M
 paths_spec =

@@ -19,7 +19,7 @@ read_spec =
     (λ c κs. omega (arith, valid c.before.before.before))
     (λ c. search rules)
     (λ c κs. omega (arith, valid c.before.before.before.before))
-    (λ c. let start = c.before.before.before.before.before in record {
-      header = start.requires;
-      tables = let two = c.before.before in simp (← two.before.u32_at-buckets_at.ensures, ← two.u32_at-buckets.ensures, ← c.before.u32_at-directories_at.ensures, ← c.u32_at-directories.ensures);
+    (λ c. record {
+      header = c.requires;
+      tables = simp (← c.u32_at-buckets_at.ensures, ← c.u32_at-buckets.ensures, ← c.u32_at-directories_at.ensures, ← c.u32_at-directories.ensures);
     }))

@@ -17,82 +17,63 @@ use Rattle.write_cache.specs.Laws.Answer.{parts-judged, buckets-allowed, buckets
 use Rattle.write_cache.proofs.write.Statement.{statement}
 use Rattle.write_cache.proofs.write.Tie as tie
 
-abbrev start : tie.After-judge-parts → tie.Start
-start c = c.before.before.before
-
 -- the catalogue is refused
 returns : tie.Need-returns-then-fault-ne0
 returns c =
-    let judge = c.before.before.before.before in
-    let a = (start judge).args in
-    let own = judge.judge-parts.ensures.fault in
-    let broken : (catalogue_fault a.catalogue.now).number ≡ 0 → ⊥ = λ z. c.before.if-fault-ne0.true (same_number own ∙ z) in
+    let a = c.args in
+    let own = c.judge-parts.ensures.fault in
+    let broken : (catalogue_fault a.catalogue.now).number ≡ 0 → ⊥ = λ z. c.if-fault-ne0.true (same_number own ∙ z) in
     let e = catalogue-refused a.catalogue.now a.buckets a.cache.now broken in
     (write-refused a.catalogue.now a.buckets a.cache.now e broken (c.refusal.ensures ∙ ap (λ (v : Fault). write_is v.number v.place 0) own), leaves_all a.catalogue.now a.buckets a.cache.now e broken)
 
 -- it is good
 module _ (c : tie.Else-fault-ne0) where
-  abbrev judged : tie.After-judge-parts
-  judged = c.before.before.before
+  good : (catalogue_fault c.args.catalogue.now).number ≡ 0
+  good = sym (same_number c.judge-parts.ensures.fault) ∙ c.if-fault-ne0.false
 
-  good : (catalogue_fault (start judged).args.catalogue.now).number ≡ 0
-  good = sym (same_number judged.judge-parts.ensures.fault) ∙ c.if-fault-ne0.false
-
-  by_parts : let p = judged.judge-parts.result in Judged (start judged).args.catalogue.now p.paths p.icons p.first_icon
+  by_parts : let p = c.judge-parts.result in Judged c.args.catalogue.now p.paths p.icons p.first_icon
   by_parts =
-      let s = (start judged).args.catalogue.now in
-      let bytes : AreBytes s = λ i. omega (arith, judged.before.before.shared_slice_known-1.given i) in
-      parts-judged bytes judged.judge-parts.ensures c.if-fault-ne0.false
+      let s = c.args.catalogue.now in
+      let bytes : AreBytes s = λ i. omega (arith, c.shared_slice_known-1.given i) in
+      parts-judged bytes c.judge-parts.ensures c.if-fault-ne0.false
 
 returns-2 : tie.Need-returns-then-buckets-eq0
 returns-2 c =
-    let e1 = c.before.before in
-    let a = (start (judged e1)).args in
-    let wrong = buckets-wrong (⊎_elim (λ then. inl then.taken) (λ else. inr (ltb-true _ _ else.1.taken)) c.before.if-buckets-eq0.branch) in
-    let e = buckets-refused a.catalogue.now a.buckets a.cache.now (good e1) wrong in
+    let a = c.args in
+    let wrong = buckets-wrong (⊎_elim (λ then. inl then.true) (λ else. inr (ltb-true _ _ else.1.true)) c.if-buckets-eq0.branch) in
+    let e = buckets-refused a.catalogue.now a.buckets a.cache.now (good c.before.before) wrong in
     (write-refused a.catalogue.now a.buckets a.cache.now e (λ z. omega arith) c.refusal-then-buckets-eq0.ensures, leaves_all a.catalogue.now a.buckets a.cache.now e (λ z. omega arith))
 
 -- so is the number of buckets
-allowed : (c : tie.Else-buckets-gt4096) → allowed_buckets (start (judged c.before.before)).args.buckets ≡ true
-allowed c = buckets-allowed c.before.if-buckets-eq0.false (ltb-false _ _ c.if-buckets-gt4096.false)
+allowed : (c : tie.Else-buckets-gt4096) → allowed_buckets c.args.buckets ≡ true
+allowed c = buckets-allowed c.if-buckets-eq0.false (ltb-false _ _ c.if-buckets-gt4096.false)
 
 returns-3 : tie.Need-returns-then-cache-length
 returns-3 c =
-    let sized = c.before.before in
-    let e3 = sized.before in
-    let e1 = e3.before.before in
-    let a = (start (judged e1)).args in
-    let wrong = size-wrong (⊎_elim (λ then. inl then.taken) (λ else. inr (ltb-true _ _ else.1.taken)) c.before.if-cache-length.branch) in
-    let e = size-refused a.catalogue.now a.buckets a.cache.now (good e1) (allowed e3) (rw sized.size-length.ensures at wrong) in
+    let a = c.args in
+    let wrong = size-wrong (⊎_elim (λ then. inl then.true) (λ else. inr (ltb-true _ _ else.1.true)) c.if-cache-length.branch) in
+    let e = size-refused a.catalogue.now a.buckets a.cache.now (good c.before.before.before.before.before) (allowed c.before.before.before) (rw c.size-length.ensures at wrong) in
     (write-refused a.catalogue.now a.buckets a.cache.now e (λ z. omega arith) c.refusal-then-cache-length.ensures, leaves_all a.catalogue.now a.buckets a.cache.now e (λ z. omega arith))
 
 -- and the size
 module _ (c : tie.Else-length-gt16777216) where
-  abbrev sized : tie.After-size-length
-  sized = c.before.before
-
-  fits : let a = (start (judged sized.before.before.before)).args in
+  fits : let a = c.args in
       Fits (catalogue_in a.catalogue.now) a.buckets a.cache.now
   fits =
-      let e3 = sized.before in
-      let short : sized.size-length.result ≤ 16777216 = ltb-false _ _ c.if-length-gt16777216.false in
+      let short : c.size-length.result ≤ 16777216 = ltb-false _ _ c.if-length-gt16777216.false in
       record {
-        some = omega (arith, e3.before.if-buckets-eq0.left);
-        few = ltb-false _ _ e3.if-buckets-gt4096.left;
-        room = omega (arith, sized.size-length.ensures, c.before.if-cache-length.false);
-        short = omega (arith, sized.size-length.ensures);
+        some = omega (arith, c.if-buckets-eq0.false);
+        few = ltb-false _ _ c.if-buckets-gt4096.false;
+        room = omega (arith, c.size-length.ensures, c.if-cache-length.false);
+        short = omega (arith, c.size-length.ensures);
       }
 
 returns-4 : tie.Need-returns
 returns-4 c =
-    let filled = c.before.before in
-    let e5 = filled.before.before in
-    let e3 = (sized e5).before in
-    let e1 = e3.before.before in
-    let a = (start (judged e1)).args in
-    let f = fits e5 in
+    let a = c.args in
+    let f = fits c.before.before.before.before in
     let ok = size-allowed f.room f.short in
-    (ap (write_is 0 0) (sized e5).size-length.ensures ∙ write_done a.catalogue.now a.buckets a.cache.now (good e1) (allowed e3) ok, leaves-written a.catalogue.now a.buckets a.cache.now (good e1) (allowed e3) ok filled.fill.ensures)
+    (ap (write_is 0 0) c.size-length.ensures ∙ write_done a.catalogue.now a.buckets a.cache.now (good c.before.before.before.before.before.before.before.before.before) (allowed c.before.before.before.before.before.before.before) ok, leaves-written a.catalogue.now a.buckets a.cache.now (good c.before.before.before.before.before.before.before.before.before) (allowed c.before.before.before.before.before.before.before) ok c.fill.ensures)
 
 pub write_spec : {M : Type 1} → statement M
 write_spec =
@@ -106,6 +87,6 @@ write_spec =
     (λ c κs. (by_parts c.before.before, ltb-false _ _ c.if-buckets-gt4096.false))
     (λ c κs. search rules)
     returns-3
-    (λ c κs. (by_parts (sized c.before).before.before.before, fits c.before))
+    (λ c κs. (by_parts c.before.before.before.before.before.before, fits c.before))
     (λ c. search rules)
     returns-4)

@@ -13,13 +13,10 @@ use Rattle.export.proofs.parts.icon.Tie as tie
 
 returns : tie.Need-returns
 returns c =
-    let measured = c.before in
-    let lists = measured.before in
-    let names = lists.before in
-    let s = names.before.before.args.cache.now in
-    let name = names.u32_at-name.ensures in
-    let long = measured.name_length.ensures ∙ ap (λ p. length (string (drop p s))) name in
-    let list = lists.u32_at-list.ensures in
+    let s = c.args.cache.now in
+    let name = c.u32_at-name.ensures in
+    let long = c.name_length.ensures ∙ ap (λ p. length (string (drop p s))) name in
+    let list = c.u32_at-list.ensures in
     let count = c.u32_at.ensures ∙ ap (be 4 s) list in
     λ j. record { name = name j; length = long j; images = list j + 4; count = count j }
 
@@ -27,14 +24,14 @@ pub icon_spec : {M : Type 1} → statement M
 icon_spec =
     tie.close
     (tie.spec
-    (λ c. omega (arith, icon-inside c.before.requires))
-    (λ c κs. omega (arith, icon-inside c.before.requires))
+    (λ c. omega (arith, icon-inside c.requires))
+    (λ c κs. omega (arith, icon-inside c.requires))
     (λ c. search rules)
     (λ c. search rules)
-    (λ c κs. omega (arith, icon-inside c.before.before.requires))
+    (λ c κs. omega (arith, icon-inside c.requires))
     (λ c. search rules)
-    (λ c κs. ap (λ p. is_whole (extent 255 (drop p c.before.before.before.args.cache.now))) c.before.u32_at-name.ensures ∙ (icon-inside c.before.before.before.requires).whole)
+    (λ c κs. ap (λ p. is_whole (extent 255 (drop p c.args.cache.now))) c.u32_at-name.ensures ∙ (icon-inside c.requires).whole)
     (λ c. search rules)
-    (λ c κs. omega (arith, c.before.u32_at-list.ensures, (icon-inside c.before.before.before.before.requires).listed))
+    (λ c κs. omega (arith, c.u32_at-list.ensures, (icon-inside c.requires).listed))
     (λ c. search rules)
     returns)

@@ -13,12 +13,10 @@ use Rattle.export.proofs.putting.counted.Tie as tie
 
 returns : tie.Need-returns
 returns c =
-    let first = c.before.before.before.before.before.before in
-    let start = first.before.before.before.before in
-    let a = start.args in
+    let a = c.args in
     let s = a.cache.now in
     put_then a.out.now a.place (bytes 2 a.count) (part s a.start a.n) (ap (λ m. a.place + m) (bytes-length 2 a.count))
-    (omega (arith, part_length s a.start a.n start.requires.0, start.requires.1)) first.put_u16.ensures c.before.before.copy.ensures
+    (omega (arith, part_length s a.start a.n c.requires.0, c.requires.1)) c.put_u16.ensures c.copy.ensures
 
 pub counted_spec : {M : Type 1} → statement M
 counted_spec = tie.close (tie.spec (λ c κs. search rules) (λ c. search rules) (λ c κs. search rules) (λ c. search rules) returns)

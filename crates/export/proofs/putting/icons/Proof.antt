@@ -18,29 +18,21 @@ decreases-loop cache index n out₀ at place₀ i₀ out place i = n - i
 loop-holds : tie.Need-loop-i-init invariant-loop decreases-loop
 loop-holds c = (omega arith, pass-first _ _ _ _ _)
 
-abbrev start : tie.At-loop-i invariant-loop decreases-loop → tie.Start invariant-loop decreases-loop
-start l = l.before.before.before.before
-
 icon-requires : tie.Need-icon-place-requires invariant-loop decreases-loop
 icon-requires c κs =
-    let turn = c.before.before in
-    let l = turn.before in (
-      entry_kept (start l).requires.0 l.loop-i.i turn.loop-i-test.true,
-      pass-room _ _ _ _ _ l.loop-i.invariant.1 turn.loop-i-test.true (start l).requires.1,
+    (
+      entry_kept c.requires.0 c.loop-i.i c.loop-i-test.true,
+      pass-room _ _ _ _ _ c.loop-i.invariant.1 c.loop-i-test.true c.requires.1,
     )
 
 loop-again : tie.Need-loop-i-preserved invariant-loop decreases-loop
 loop-again c =
-    let done = c.before.before in
-    let turn = done.before.before.before in
-    let l = turn.before in
-    (omega arith, pass-next _ _ _ _ _ l.loop-i.invariant.1 turn.loop-i-test.true (start l).requires.1 done.icon-place.ensures.0 (omega arith) refl done.icon-place.ensures.1)
+    (omega arith, pass-next _ _ _ _ _ c.loop-i.invariant.1 c.loop-i-test.true c.requires.1 c.icon-place.ensures.0 (omega arith) refl c.icon-place.ensures.1)
 
 returns : tie.Need-returns invariant-loop decreases-loop
 returns c =
-    let l = c.before in
-    let all : l.loop-i.i ≡ (start l).args.n = omega arith in
-    (pass-done _ _ _ _ _ l.loop-i.invariant.1 all).0
+    let all : c.loop-i.i ≡ c.args.n = omega arith in
+    (pass-done _ _ _ _ _ c.loop-i.invariant.1 all).0
 
 pub icons_spec : {M : Type 1} → statement M
 icons_spec =
@@ -49,9 +41,9 @@ icons_spec =
     invariant-loop
     decreases-loop
     loop-holds
-    (λ c. omega (arith, (start c.before).pre.0.few))
-    (λ c. omega (arith, (start c.before.before).pre.0.room))
-    (λ c. omega (arith, c.shared_slice_known-in-loop-i-1.given c.before.before.loop-i.i))
+    (λ c. omega (arith, c.requires.0.few))
+    (λ c. omega (arith, c.requires.0.room))
+    (λ c. omega (arith, c.shared_slice_known-in-loop-i-1.given c.loop-i.i))
     icon-requires
     (λ c. omega arith)
     (λ c. omega arith)

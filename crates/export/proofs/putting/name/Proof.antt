@@ -13,12 +13,10 @@ use Rattle.export.proofs.putting.name.Tie as tie
 
 returns : tie.Need-returns
 returns c =
-    let first = c.before.before.before.before.before.before in
-    let start = first.before.before.before.before in
-    let a = start.args in
+    let a = c.args in
     let s = a.cache.now in
     put_then a.out.now a.place (bytes 1 a.size) (part s a.start a.size) (ap (λ m. a.place + m) (bytes-length 1 a.size))
-    (omega (arith, part_length s a.start a.size start.requires.0, start.requires.1)) first.put_byte.ensures c.before.before.copy.ensures
+    (omega (arith, part_length s a.start a.size c.requires.0, c.requires.1)) c.put_byte.ensures c.copy.ensures
 
 pub name_spec : {M : Type 1} → statement M
 name_spec = tie.close (tie.spec (λ c κs. search rules) (λ c. search rules) (λ c κs. search rules) (λ c. search rules) returns)

@@ -20,28 +20,21 @@ decreases-loop cache t out₀ at n place₀ i₀ out place i = n - i
 loop-holds : tie.Need-loop-i-init invariant-loop decreases-loop
 loop-holds c = (omega arith, pass-first _ _ _ _ _)
 
-abbrev start : tie.At-loop-i invariant-loop decreases-loop → tie.Start invariant-loop decreases-loop
-start l = l.before.before.before
-
 module _ (c : tie.In-loop-i invariant-loop decreases-loop) where
-  below : c.before.loop-i.i < directories (start c.before).args.cache.now
-  below = omega (arith, same-directories (start c.before).pre.0.tables)
+  below : c.loop-i.i < directories c.args.cache.now
+  below = omega (arith, same-directories c.requires.0.tables)
 
-  room : let l = c.before in l.loop-i.place + length (path_piece (start l).args.cache.now l.loop-i.i) ≤ length l.loop-i.out
-  room = pass-room _ _ _ _ _ c.before.loop-i.invariant.1 below (start c.before).pre.1
+  room : c.loop-i.place + length (path_piece c.args.cache.now c.loop-i.i) ≤ length c.loop-i.out
+  room = pass-room _ _ _ _ _ c.loop-i.invariant.1 below c.requires.1
 
 loop-again : tie.Need-loop-i-preserved invariant-loop decreases-loop
 loop-again c =
-    let done = c.before.before in
-    let turn = done.before.before in
-    let l = turn.before in
-    (omega arith, pass-next _ _ _ _ _ l.loop-i.invariant.1 (below turn) (start l).requires.1 done.path-place.ensures.0 (omega arith) refl done.path-place.ensures.1)
+    (omega arith, pass-next _ _ _ _ _ c.loop-i.invariant.1 (below c.before.before.before.before) c.requires.1 c.path-place.ensures.0 (omega arith) refl c.path-place.ensures.1)
 
 returns : tie.Need-returns invariant-loop decreases-loop
 returns c =
-    let l = c.before in
-    let all : l.loop-i.i ≡ directories (start l).args.cache.now = omega (arith, same-directories (start l).requires.0.tables) in
-    pass-done _ _ _ _ _ l.loop-i.invariant.1 all
+    let all : c.loop-i.i ≡ directories c.args.cache.now = omega (arith, same-directories c.requires.0.tables) in
+    pass-done _ _ _ _ _ c.loop-i.invariant.1 all
 
 pub paths_spec : {M : Type 1} → statement M
 paths_spec =
@@ -50,7 +43,7 @@ paths_spec =
     invariant-loop
     decreases-loop
     loop-holds
-    (λ c κs. (((start c.before.before).pre.0, below c.before), room c.before))
+    (λ c κs. ((c.requires.0, below c.before), room c.before))
     (λ c. omega arith)
     (λ c. omega arith)
     loop-again

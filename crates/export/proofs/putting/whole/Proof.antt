@@ -21,28 +21,20 @@ room c =
 
 returns : tie.Need-returns
 returns c =
-    let counted = c.before.before.before.before.before.before in
-    let paths = counted.before.before.before.before in
-    let first = paths.before.before.before.before in
-    let start = first.before.before.before.before.before.before in
-    pieces-put start.requires.0 start.args.out.now start.requires.1 (same-directories start.requires.0.sound.tables) first.put_u16.ensures paths.paths-at.ensures.0 paths.paths-at.ensures.1
-    counted.put_u16-2.ensures c.before.before.icons.ensures
+    pieces-put c.requires.0 c.args.out.now c.requires.1 (same-directories c.requires.0.sound.tables) c.put_u16.ensures c.paths-at.ensures.0 c.paths-at.ensures.1
+    c.put_u16-2.ensures c.icons.ensures
 
 pub whole_spec : {M : Type 1} → statement M
 whole_spec =
     tie.close
     (tie.spec
-    (λ c. let start = c.before.before.before.before.before in omega (arith, same-directories start.requires.0.sound.tables, valid-header start.requires.0.sound.tables))
+    (λ c. omega (arith, same-directories c.requires.0.sound.tables, valid-header c.requires.0.sound.tables))
     (λ c κs. omega (arith, room c.before.before.before.before.before))
-    (λ c κs. let start = c.before.before.before.before.before.before.before.before.before in (start.requires.0.sound, omega (arith, room start)))
+    (λ c κs. (c.requires.0.sound, omega (arith, room c.before.before.before.before.before.before.before.before.before)))
     (λ c. search rules)
-    (λ c κs. omega (arith, c.before.before.before.paths-at.ensures.1, room c.before.before.before.before.before.before.before.before.before.before.before.before.before))
-    (λ c. let paths = c.before.before.before.before.before.before.before in
-    let start = paths.before.before.before.before.before.before.before.before.before.before in
-    omega (arith, paths.paths-at.ensures.1, room start, start.well-formed.1.1.1.1.0))
+    (λ c κs. omega (arith, c.paths-at.ensures.1, room c.before.before.before.before.before.before.before.before.before.before.before.before.before))
+    (λ c. omega (arith, c.paths-at.ensures.1, room c.before.before.before.before.before.before.before.before.before.before.before.before.before.before.before.before.before, c.well_formed.1.1.1.1.0))
     (λ c κs.
-    let paths = c.before.before.before.before.before.before.before in
-    let start = paths.before.before.before.before.before.before.before.before.before.before in
-    (start.requires.0, omega (arith, paths.paths-at.ensures.1, room start)))
+    (c.requires.0, omega (arith, c.paths-at.ensures.1, room c.before.before.before.before.before.before.before.before.before.before.before.before.before.before.before.before.before)))
     (λ c. search rules)
     returns)

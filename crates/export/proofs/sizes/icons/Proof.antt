@@ -21,21 +21,18 @@ loop-holds c = (omega arith, refl, omega arith)
 
 icon-size-requires : tie.Need-icon_size-size-requires invariant-loop decreases-loop
 icon-size-requires c κs =
-    let l = c.before.before in
-    entry_kept l.before.before.before.requires l.loop-i.i c.before.loop-i-test.true
+    entry_kept c.requires c.loop-i.i c.loop-i-test.true
 
 loop-again : tie.Need-loop-i-preserved invariant-loop decreases-loop
 loop-again c =
-    let l = c.before.before.before in
-    let a = l.before.before.before.args in
-    (omega arith, omega (arith, piece-more (icon_piece a.cache.now a.index.now) l.loop-i.i), omega arith)
+    let a = c.args in
+    (omega arith, omega (arith, piece-more (icon_piece a.cache.now a.index.now) c.loop-i.i), omega arith)
 
 returns : tie.Need-returns invariant-loop decreases-loop
 returns c =
-    let l = c.before in
-    let a = l.before.before.before.args in
-    let all : l.loop-i.i ≡ a.n = omega arith in
-    (l.loop-i.invariant.1 ∙ ap (λ i. length (joined (icon_piece a.cache.now a.index.now) i)) all, omega arith)
+    let a = c.args in
+    let all : c.loop-i.i ≡ a.n = omega arith in
+    (c.loop-i.invariant.1 ∙ ap (λ i. length (joined (icon_piece a.cache.now a.index.now) i)) all, omega arith)
 
 pub icons_spec : {M : Type 1} → statement M
 icons_spec =
@@ -44,12 +41,12 @@ icons_spec =
     invariant-loop
     decreases-loop
     loop-holds
-    (λ c. let start = c.before.before.before.before in omega (arith, start.requires.few))
-    (λ c. let start = c.before.before.before.before.before in omega (arith, start.requires.room))
-    (λ c. omega (arith, c.shared_slice_known-in-loop-i-1.given c.before.before.loop-i.i))
+    (λ c. omega (arith, c.requires.few))
+    (λ c. omega (arith, c.requires.room))
+    (λ c. omega (arith, c.shared_slice_known-in-loop-i-1.given c.loop-i.i))
     icon-size-requires
-    (λ c. let start = c.before.before.before.before.before.before in omega (arith, start.requires.few))
-    (λ c. let start = c.before.before.before.before.before.before in omega (arith, start.requires.few))
+    (λ c. omega (arith, c.requires.few))
+    (λ c. omega (arith, c.requires.few))
     (λ c. omega arith)
     loop-again
     returns)

@@ -23,22 +23,18 @@ loop-holds c = (omega arith, refl, omega arith)
 
 path-size-requires : tie.Need-path_size-size-requires invariant-loop decreases-loop
 path-size-requires c κs =
-    let start = c.before.before.before in
-    (start.requires, omega (arith, same-directories start.requires.tables))
+    (c.requires, omega (arith, same-directories c.requires.tables))
 
 loop-again : tie.Need-loop-i-preserved invariant-loop decreases-loop
 loop-again c =
-    let l = c.before.before in
-    let a = l.before.before.args in
-    (omega arith, omega (arith, piece-more (path_piece a.cache.now) l.loop-i.i), omega arith)
+    let a = c.args in
+    (omega arith, omega (arith, piece-more (path_piece a.cache.now) c.loop-i.i), omega arith)
 
 returns : tie.Need-returns invariant-loop decreases-loop
 returns c =
-    let l = c.before in
-    let start = l.before.before in
-    let s = start.args.cache.now in
-    let all : l.loop-i.i ≡ directories s = omega (arith, same-directories start.requires.tables) in
-    (l.loop-i.invariant.1 ∙ ap (λ i. length (joined (path_piece s) i)) all, omega arith)
+    let s = c.args.cache.now in
+    let all : c.loop-i.i ≡ directories s = omega (arith, same-directories c.requires.tables) in
+    (c.loop-i.invariant.1 ∙ ap (λ i. length (joined (path_piece s) i)) all, omega arith)
 
 pub paths_spec : {M : Type 1} → statement M
 paths_spec =

@@ -10,16 +10,15 @@ use Rattle.export.proofs.sizes.whole.Tie as tie
 
 returns : tie.Need-returns
 returns c =
-    let start = c.before.before.before.before in
-    let a = start.args in
-    omega (arith, ap length (pieces_are start.requires), pieces-length a.cache.now a.index.now a.n, c.before.paths.ensures.0, c.icons.ensures.0)
+    let a = c.args in
+    omega (arith, ap length (pieces_are c.requires), pieces-length a.cache.now a.index.now a.n, c.paths.ensures.0, c.icons.ensures.0)
 
 pub whole_spec : {M : Type 1} → statement M
 whole_spec =
     tie.close
     (tie.spec
     (λ c κs. search rules)
-    (λ c. omega (arith, valid-header c.before.before.before.requires.sound.tables))
+    (λ c. omega (arith, valid-header c.requires.sound.tables))
     (λ c κs. search rules)
-    (λ c. let start = c.before.before.before.before in omega (arith, valid-header start.requires.sound.tables, start.requires.few))
+    (λ c. omega (arith, valid-header c.requires.sound.tables, c.requires.few))
     returns)

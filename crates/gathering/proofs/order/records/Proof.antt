@@ -26,25 +26,21 @@ loop-holds c = (refl, omega arith, gathered_none _)
 
 take-chain-requires : tie.Need-take_chain-n-requires invariant-loop decreases-loop
 take-chain-requires c κs =
-    let l = c.before.before in
-    let start = l.before.before.before in
-    let s = start.args.cache.now in
-    let k = suc l.loop-bucket.bucket in
-    let count = same-buckets start.requires.0.tables in
+    let s = c.args.cache.now in
+    let k = suc c.loop-bucket.bucket in
+    let count = same-buckets c.requires.0.tables in
     let all : header.buckets s - k + k ≡ header.buckets s = omega arith in
-    let few : length (records_below Short s k) ≤ length start.args.index.now = omega (arith, rw all at (fewer-below s k (header.buckets s - k)), start.requires.1) in
-    ((start.requires.0, omega arith), (l.loop-bucket.invariant.2, omega (arith, l.loop-bucket.invariant.0)))
+    let few : length (records_below Short s k) ≤ length c.args.index.now = omega (arith, rw all at (fewer-below s k (header.buckets s - k)), c.requires.1) in
+    ((c.requires.0, omega arith), (c.loop-bucket.invariant.2, omega (arith, c.loop-bucket.invariant.0)))
 
 loop-again : tie.Need-loop-bucket-preserved invariant-loop decreases-loop
-loop-again c = (omega arith, omega arith, rw add-one c.before.before.take_chain-n.ensures)
+loop-again c = (omega arith, omega arith, rw add-one c.take_chain-n.ensures)
 
 returns : tie.Need-returns invariant-loop decreases-loop
 returns c =
-    let l = c.before in
-    let start = l.before.before.before in
-    let s = start.args.cache.now in
-    let all : l.loop-bucket.bucket ≡ header.buckets s = omega (arith, same-buckets start.requires.0.tables) in
-    gathered-ordered start.requires.0.accepted (rw all at l.loop-bucket.invariant.2)
+    let s = c.args.cache.now in
+    let all : c.loop-bucket.bucket ≡ header.buckets s = omega (arith, same-buckets c.requires.0.tables) in
+    gathered-ordered c.requires.0.accepted (rw all at c.loop-bucket.invariant.2)
 
 pub records_spec : {M : Type 1} → statement M
 records_spec =

@@ -20,25 +20,20 @@ decreases-loop cache bucket field₀ n₀ field n = length cache - n
 
 loop-holds : tie.Need-loop-bucket-init invariant-loop decreases-loop
 loop-holds c =
-    let start = c.before.before in
-    stands-first start.requires.0 start.requires.1 (c.bucket_field-field.ensures ∙ same-field start.requires.0.tables start.args.bucket)
+    stands-first c.requires.0 c.requires.1 (c.bucket_field-field.ensures ∙ same-field c.requires.0.tables c.args.bucket)
 
 returns : tie.Need-returns-then-record invariant-loop decreases-loop
-returns c = let read = c.before in stands-ended read.before.loop-bucket.invariant read.u32_at-record.ensures c.if-record.true
+returns c = stands-ended c.loop-bucket.invariant c.u32_at-record.ensures c.if-record.true
 
-few : (c : tie.Else-record invariant-loop decreases-loop) → c.before.before.loop-bucket.n < length c.before.before.before.before.before.args.cache.now
+few : (c : tie.Else-record invariant-loop decreases-loop) → c.loop-bucket.n < length c.args.cache.now
 few c =
-    let read = c.before in
-    let start = read.before.before.before.before in
-    let (n, h) = chain-holds start.requires.0 start.args.bucket start.requires.1 in
-    omega (arith, stands-below read.before.loop-bucket.invariant h read.u32_at-record.ensures c.if-record.false, holds-few h)
+    let (n, h) = chain-holds c.requires.0 c.args.bucket c.requires.1 in
+    omega (arith, stands-below c.loop-bucket.invariant h c.u32_at-record.ensures c.if-record.false, holds-few h)
 
 loop-again : tie.Need-loop-bucket-preserved invariant-loop decreases-loop
 loop-again c =
-    let read = c.before in
-    let start = read.before.before.before.before in
-    let (n, h) = chain-holds start.requires.0 start.args.bucket start.requires.1 in
-    stands-next read.before.loop-bucket.invariant h read.u32_at-record.ensures c.if-record.false
+    let (n, h) = chain-holds c.requires.0 c.args.bucket c.requires.1 in
+    stands-next c.loop-bucket.invariant h c.u32_at-record.ensures c.if-record.false
 
 pub count_spec : {M : Type 1} → statement M
 count_spec =

@@ -22,32 +22,23 @@ loop-holds c = (omega arith, omega arith, chains-first _)
 
 on-chain-requires : tie.Need-on_chain-fault-requires invariant-loop decreases-loop
 on-chain-requires c κs =
-    let start = c.before.before.before.before.before in
-    (start.requires.0, omega (arith, same-buckets start.requires.0.tables), omega arith)
+    (c.requires.0, omega (arith, same-buckets c.requires.0.tables), omega arith)
 
 returns : tie.Need-returns-then-fault-ne0 invariant-loop decreases-loop
 returns c =
-    let judged = c.before.before.before.before in
-    let l = judged.before.before.before in
-    let start = l.before.before.before in
-    let told = judged.on_chain-fault.ensures in
+    let told = c.on_chain-fault.ensures in
     told
-    ∙ chains-broken start.requires.0.accepted l.loop-bucket.invariant.2 (omega (arith, same-buckets start.requires.0.tables)) (λ z. c.if-fault-ne0.true (same_number told ∙ z))
+    ∙ chains-broken c.requires.0.accepted c.loop-bucket.invariant.2 (omega (arith, same-buckets c.requires.0.tables)) (λ z. c.if-fault-ne0.true (same_number told ∙ z))
 
 loop-again : tie.Need-loop-bucket-preserved invariant-loop decreases-loop
 loop-again c =
-    let judged = c.before.before.before.before in
-    let l = judged.before.before.before in
-    let start = l.before.before.before in
-    let told = judged.on_chain-fault.ensures in
-    let next = chains-next start.requires.0.accepted l.loop-bucket.invariant.2 (omega (arith, same-buckets start.requires.0.tables)) (sym (same_number told) ∙ c.if-fault-ne0.false) in
+    let told = c.on_chain-fault.ensures in
+    let next = chains-next c.requires.0.accepted c.loop-bucket.invariant.2 (omega (arith, same-buckets c.requires.0.tables)) (sym (same_number told) ∙ c.if-fault-ne0.false) in
     (omega arith, omega arith, rw add-one next)
 
 returns-2 : tie.Need-returns invariant-loop decreases-loop
 returns-2 c =
-    let l = c.before in
-    let start = l.before.before.before in
-    chains-all start.requires.0.accepted l.loop-bucket.invariant.2 (omega (arith, same-buckets start.requires.0.tables))
+    chains-all c.requires.0.accepted c.loop-bucket.invariant.2 (omega (arith, same-buckets c.requires.0.tables))
 
 pub in_cache_spec : {M : Type 1} → statement M
 in_cache_spec =

@@ -12,35 +12,27 @@ use Rattle.gathering.specs.Laws.Repeats.{field-ends, chain-inside, chain-repeats
 use Rattle.gathering.proofs.repeated.on_chain.Statement.{statement}
 use Rattle.gathering.proofs.repeated.on_chain.Tie as tie
 
-abbrev start : tie.After-count-n → tie.Start
-start c = c.before.before.before.before
-
 module _ (c : tie.After-count-n) where
-  field_is : c.before.bucket_field-field.result ≡ bucket_field (start c).args.cache.now (start c).args.bucket
-  field_is = c.before.bucket_field-field.ensures ∙ same-field (start c).requires.0.tables (start c).args.bucket
+  field_is : c.bucket_field-field.result ≡ bucket_field c.args.cache.now c.args.bucket
+  field_is = c.bucket_field-field.ensures ∙ same-field c.requires.0.tables c.args.bucket
 
-  room : c.before.bucket_field-field.result + 4 ≤ length (start c).args.cache.now
-  room = omega (arith, field_is, field-inside (start c).requires.0.tables (start c).args.bucket (start c).requires.1)
+  room : c.bucket_field-field.result + 4 ≤ length c.args.cache.now
+  room = omega (arith, field_is, field-inside c.requires.0.tables c.args.bucket c.requires.1)
 
-  ends : (i : ℕ) → i ≤ c.count-n.result → ahead (start c).args.cache.now c.before.bucket_field-field.result i + 4 ≤ length (start c).args.cache.now
+  ends : (i : ℕ) → i ≤ c.count-n.result → ahead c.args.cache.now c.bucket_field-field.result i + 4 ≤ length c.args.cache.now
   ends = field-ends _ _ c.count-n.ensures field_is room
 
 place-fits : tie.Need-overflow_add-result
 place-fits c =
-    let found = c.before.before.before.before in
-    omega (arith, c.ahead.ensures, ends found.before.before (found.first-first.result + 1) (omega arith))
+    omega (arith, c.ahead.ensures, ends c.before.before.before.before.before.before (c.first-first.result + 1) (omega arith))
 
 returns : tie.Need-returns-then-first-n
 returns c =
-    let found = c.before.before.before.before in
-    let counted = found.before.before in
-    chain-repeats _ _ counted.count-n.ensures (field_is counted) found.first-first.ensures c.before.if-first-n.true c.ahead.ensures
+    chain-repeats _ _ c.count-n.ensures (field_is c.before.before.before.before.before.before) c.first-first.ensures c.if-first-n.true c.ahead.ensures
 
 returns-2 : tie.Need-returns
 returns-2 c =
-    let found = c.before.before.before in
-    let counted = found.before.before in
-    chain-repeats-none _ _ counted.count-n.ensures (field_is counted) found.first-first.ensures c.if-first-n.false
+    chain-repeats-none _ _ c.count-n.ensures (field_is c.before.before.before.before.before) c.first-first.ensures c.if-first-n.false
 
 pub on_chain_spec : {M : Type 1} → statement M
 on_chain_spec =
@@ -48,7 +40,7 @@ on_chain_spec =
     (tie.spec
     (λ c κs. search rules)
     (λ c κs. search rules)
-    (λ c κs. let counted = c.before in (chain-inside _ _ counted.count-n.ensures (field_is counted) (room counted), search rules))
+    (λ c κs. (chain-inside _ _ c.count-n.ensures (field_is c.before) (room c.before), search rules))
     (λ c. search rules)
     (λ c κs. λ m l. ends c.before.before.before.before.before m (omega arith))
     place-fits

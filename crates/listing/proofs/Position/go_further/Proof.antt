@@ -13,26 +13,25 @@ use Rattle.listing.proofs.Position.go_further.Tie as tie
 
 -- what comes after the records passed
 follows : (c : tie.After-finish-chain) {l : Next} → c.finish-chain.result.after ≡ l
-    → let a = c.before.before.before.args in
+    → let a = c.args in
     let q = a.self in
     reached q a.bucket q.count l ≡ reached q a.bucket q.count (chain_of Short a.cache.now a.bucket q.count).after-1
 follows c e =
-    let a = c.before.before.before.args in
-    ap (reached a.self a.bucket a.self.count) (sym e ∙ ap (λ (w : Walked). w.after-1) (c.finish-chain.ensures _ c.before.go_on-judged.ensures))
+    let a = c.args in
+    ap (reached a.self a.bucket a.self.count) (sym e ∙ ap (λ (w : Walked). w.after-1) (c.finish-chain.ensures _ c.go_on-judged.ensures))
 
 finish-requires : tie.Need-finish-chain-requires
 finish-requires c κs =
-    let start = c.before.before in
-    ((start.requires.1.0.2, omega (arith, valid-header start.requires.0)), (start.args.bucket, c.go_on-judged.ensures))
+    ((c.requires.1.0.2, omega (arith, valid-header c.requires.0)), (c.args.bucket, c.go_on-judged.ensures))
 
 returns : tie.Need-returns-in-Record
-returns c = c.hand_back.ensures ∙ follows c.before.before.before.before c.before.before.after-1.given.1
+returns c = c.hand_back.ensures ∙ follows c.before.before.before.before c.after-1.given.1
 
 returns-2 : tie.Need-returns-in-Broken
-returns-2 c = c.stay.ensures ∙ follows c.before.before.before.before c.before.before.after-in-Broken-1.given.1
+returns-2 c = c.stay.ensures ∙ follows c.before.before.before.before c.after-in-Broken-1.given.1
 
 returns-3 : tie.Need-returns-in-End
-returns-3 c = c.stay-in-End.ensures ∙ follows c.before.before.before c.before.enum_told-1.given.1
+returns-3 c = c.stay-in-End.ensures ∙ follows c.before.before.before c.enum_told-1.given.1
 
 pub go_further_spec : {M : Type 1} → statement M
 go_further_spec =
@@ -41,7 +40,7 @@ go_further_spec =
     (λ c κs. search rules)
     finish-requires
     (λ c. c.in-Record.keys1)
-    (λ c κs. let pre = c.before.before.before.before.before.before.requires in omega (arith, pre.1.0.2, valid-header pre.0))
+    (λ c κs. let pre = c.requires in omega (arith, pre.1.0.2, valid-header pre.0))
     (λ c. c.in-Record.keys2)
     (λ c κs. search rules)
     (λ c. c.in-Record.keys3)

@@ -11,38 +11,34 @@ use Rattle.listing.specs.Laws.Steps.{position-header, position-no-bucket, positi
 use Rattle.listing.proofs.Position.next.Statement.{statement}
 use Rattle.listing.proofs.Position.next.Tie as tie
 
-header-kept : (c : tie.Else-header-ne0) → (header_fault c.before.before.before.before.args.cache.now).number ≡ 0
-header-kept c = rw c.before.before.header-header.ensures at c.if-header-ne0.false
+header-kept : (c : tie.Else-header-ne0) → (header_fault c.args.cache.now).number ≡ 0
+header-kept c = rw c.header-header.ensures at c.if-header-ne0.false
 
 returns : tie.Need-returns-then-header-ne0
 returns c =
-    let hdr = c.before.before.before.header-header in
-    let broken = position-header _ _ (rw hdr.ensures at c.before.if-header-ne0.true) ∙ sym hdr.ensures in
-    c.stay.ensures ∙ sym (step-refuses _ _ broken c.before.if-header-ne0.true)
+    let hdr = c.header-header in
+    let broken = position-header _ _ (rw hdr.ensures at c.if-header-ne0.true) ∙ sym hdr.ensures in
+    c.stay.ensures ∙ sym (step-refuses _ _ broken c.if-header-ne0.true)
 
 returns-2 : tie.Need-returns-then-t-self
 returns-2 c =
-    let tabled = c.before.before.before.before in
-    let beyond = position-no-bucket _ _ tabled.read-t.ensures.header (rw (same-buckets tabled.read-t.ensures) at c.before.if-t-self.true) in
+    let beyond = position-no-bucket _ _ c.read-t.ensures.header (rw (same-buckets c.read-t.ensures) at c.if-t-self.true) in
     c.stay-then-t-self.ensures ∙ sym (step-refuses _ _ beyond (λ z. omega arith))
 
 returns-3 : tie.Need-returns-then-cache-self
 returns-3 c =
-    let tabled = c.before.before.before.before.before.before in
-    let named = rw (same-buckets tabled.read-t.ensures) at c.before.before.before.if-t-self.false in
-    let beyond = position-counts-too-far _ _ tabled.read-t.ensures.header named c.before.if-cache-self.true in
+    let named = rw (same-buckets c.read-t.ensures) at c.if-t-self.false in
+    let beyond = position-counts-too-far _ _ c.read-t.ensures.header named c.if-cache-self.true in
     c.stay-then-cache-self.ensures ∙ sym (step-refuses _ _ beyond (λ z. omega arith))
 
 onward-requires : tie.Need-onward-requires
 onward-requires c κs =
-    let tabled = c.before.before.before.before.before in
-    (tabled.read-t.ensures, (rw (same-buckets tabled.read-t.ensures) at c.before.before.if-t-self.false, c.if-cache-self.false))
+    (c.read-t.ensures, (rw (same-buckets c.read-t.ensures) at c.if-t-self.false, c.if-cache-self.false))
 
 returns-4 : tie.Need-returns
 returns-4 c =
-    let tabled = c.before.before.before.before.before.before in
-    let named = rw (same-buckets tabled.read-t.ensures) at c.before.before.before.if-t-self.false in
-    let none = position-valid _ _ tabled.read-t.ensures.header named c.before.if-cache-self.false in
+    let named = rw (same-buckets c.read-t.ensures) at c.if-t-self.false in
+    let none = position-valid _ _ c.read-t.ensures.header named c.if-cache-self.false in
     c.onward.ensures ∙ sym (step-goes _ _ (same_number none))
 
 pub next_spec : {M : Type 1} → statement M
@@ -56,7 +52,7 @@ next_spec =
     (λ c. search rules)
     (λ c κs. search rules)
     returns-2
-    (λ c. omega (arith, valid-header c.before.before.before.read-t.ensures))
+    (λ c. omega (arith, valid-header c.read-t.ensures))
     (λ c κs. search rules)
     returns-3
     onward-requires

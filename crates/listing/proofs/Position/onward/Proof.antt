@@ -32,13 +32,9 @@ invariant-loop self cache t n bucket₀ passed₀ walked₀ bucket passed walked
 abbrev decreases-loop : tie.decreases-loop-bucket
 decreases-loop self cache t n bucket₀ passed₀ walked₀ bucket passed walked = n - bucket
 
-abbrev start : tie.At-loop-bucket invariant-loop decreases-loop → tie.Start invariant-loop decreases-loop
-start l = l.before.before.before.before
-
 loop-holds : tie.Need-loop-bucket-init invariant-loop decreases-loop
 loop-holds c =
-    let from = c.before.before.before in
-    let pre = from.requires in (
+    let pre = c.requires in (
       omega (arith, pre, same-buckets pre.0),
       c.at_first-walked.ensures,
       pre.1.1,
@@ -48,51 +44,40 @@ loop-holds c =
 
 -- a turn is one bucket more
 turn : (c : tie.In-loop-bucket invariant-loop decreases-loop)
-    → let l = c.before in
-    let a = (start l).args in
-    onward (suc (a.t.buckets - (l.loop-bucket.bucket + 1))) a.cache.now a.self l.loop-bucket.bucket l.loop-bucket.passed
+    → let a = c.args in
+    onward (suc (a.t.buckets - (c.loop-bucket.bucket + 1))) a.cache.now a.self c.loop-bucket.bucket c.loop-bucket.passed
     ≡ onward (buckets a.cache.now - a.self.bucket) a.cache.now a.self a.self.bucket a.self.count
 turn c =
-    let l = c.before in
-    let n = (start l).args.t.buckets in
-    let more : n - l.loop-bucket.bucket ≡ suc (n - (l.loop-bucket.bucket + 1)) = omega arith in
-    rw more at l.loop-bucket.invariant.4
+    let n = c.args.t.buckets in
+    let more : n - c.loop-bucket.bucket ≡ suc (n - (c.loop-bucket.bucket + 1)) = omega arith in
+    rw more at c.loop-bucket.invariant.4
 
 -- what comes after the records passed, where the walk has met an end before
 broken : (c : tie.After-walk-chain invariant-loop decreases-loop) {x p : ℕ} → c.walk-chain.result.after ≡ Broken x p
-    → let l = c.before.before in
-    (chain_of Short (start l).args.cache.now l.loop-bucket.bucket l.loop-bucket.passed).after-1 ≡ Broken x p
-broken c q = sym (ap (λ (w : Walked). w.after-1) (walked-broken _ _ _ c.walk-chain.ensures c.before.before.loop-bucket.invariant.1 q)) ∙ q
+    → (chain_of Short c.args.cache.now c.loop-bucket.bucket c.loop-bucket.passed).after-1 ≡ Broken x p
+broken c q = sym (ap (λ (w : Walked). w.after-1) (walked-broken _ _ _ c.walk-chain.ensures c.loop-bucket.invariant.1 q)) ∙ q
 
 ended-before : (c : tie.After-walk-chain invariant-loop decreases-loop) → c.walk-chain.result.after ≡ End
-    → let l = c.before.before in
-    (chain_of Short (start l).args.cache.now l.loop-bucket.bucket l.loop-bucket.passed).after-1 ≡ End
-ended-before c q = sym (ap (λ (w : Walked). w.after-1) (walked-ended _ _ _ c.walk-chain.ensures c.before.before.loop-bucket.invariant.1 q)) ∙ q
+    → (chain_of Short c.args.cache.now c.loop-bucket.bucket c.loop-bucket.passed).after-1 ≡ End
+ended-before c q = sym (ap (λ (w : Walked). w.after-1) (walked-ended _ _ _ c.walk-chain.ensures c.loop-bucket.invariant.1 q)) ∙ q
 
 reach-requires : tie.Need-reach-step-requires invariant-loop decreases-loop
 reach-requires c κs =
-    let w = c.before.before.before in
-    let l = w.before.before in
-    let pre = (start l).requires.0 in
-    let next = sym (ap (λ (w : Walked). w.after-1) w.walk-chain.ensures) ∙ c.before.after-1.given.1 in
-    (pre, ((omega (arith, same-buckets pre), l.loop-bucket.invariant.1, omega (arith, l.loop-bucket.invariant.2, valid-header pre)), (l.loop-bucket.invariant.3, next)))
+    let pre = c.requires.0 in
+    let next = sym (ap (λ (c : Walked). c.after-1) c.walk-chain.ensures) ∙ c.after-1.given.1 in
+    (pre, ((omega (arith, same-buckets pre), c.loop-bucket.invariant.1, omega (arith, c.loop-bucket.invariant.2, valid-header pre)), (c.loop-bucket.invariant.3, next)))
 
 returns : tie.Need-returns-then-step-ne28 invariant-loop decreases-loop
 returns c =
-    let reach = c.before.before in
-    let w = reach.before.before.before.before in
-    sym (reach-answers _ _ _ _ reach.reach-step.ensures _ c.if-step-ne28.true) ∙ turn w.before
+    sym (reach-answers _ _ _ _ c.reach-step.ensures _ c.if-step-ne28.true) ∙ turn c.before.before.before.before.before.before.before
 
 returns-2 : tie.Need-returns-in-Broken invariant-loop decreases-loop
 returns-2 c =
-    let known = c.before.before in
-    let w = known.before.before in
-    c.stay.ensures ∙ sym (onward-breaks _ _ _ _ _ (broken w known.after-in-Broken-1.given.1)) ∙ turn w.before
+    c.stay.ensures ∙ sym (onward-breaks _ _ _ _ _ (broken c.before.before.before.before c.after-in-Broken-1.given.1)) ∙ turn c.before.before.before.before.before
 
 -- the chain has ended
 ended : (c : tie.Joined-after invariant-loop decreases-loop)
-    → let l = c.before.before.before in
-    (chain_of Short (start l).args.cache.now l.loop-bucket.bucket l.loop-bucket.passed).after-1 ≡ End
+    → (chain_of Short c.args.cache.now c.loop-bucket.bucket c.loop-bucket.passed).after-1 ≡ End
 ended c =
     ⊎_elim
     (λ long. reach-ends _ _ _ _ long.3.ensures long.5.left)
@@ -101,15 +86,13 @@ ended c =
 
 loop-again : tie.Need-loop-bucket-preserved invariant-loop decreases-loop
 loop-again c =
-    let w = c.before in
-    (omega arith, omega arith, omega arith, λ l. absurd (omega arith), rw add-one (sym (onward-ends _ _ _ _ _ (ended c))) ∙ turn w.before)
+    (omega arith, omega arith, omega arith, λ l. absurd (omega arith), rw add-one (sym (onward-ends _ _ _ _ _ (ended c))) ∙ turn c.before.before)
 
 returns-3 : tie.Need-returns invariant-loop decreases-loop
 unfolding onward
 returns-3 c =
-    let l = c.before.before in
-    let none : (start l).args.t.buckets - l.loop-bucket.bucket ≡ 0 = omega arith in
-    c.stay-2.ensures ∙ rw none at l.loop-bucket.invariant.4
+    let none : c.args.t.buckets - c.loop-bucket.bucket ≡ 0 = omega arith in
+    c.stay-2.ensures ∙ rw none at c.loop-bucket.invariant.4
 
 pub onward_spec : {M : Type 1} → statement M
 onward_spec =
@@ -117,13 +100,12 @@ onward_spec =
     (tie.spec
     invariant-loop
     decreases-loop
-    (λ c. omega (arith, same-buckets c.before.before.requires.0, valid-header c.before.before.requires.0))
-    (λ c κs. omega (arith, c.before.before.requires.1, valid-header c.before.before.requires.0))
+    (λ c. omega (arith, same-buckets c.requires.0, valid-header c.requires.0))
+    (λ c κs. omega (arith, c.requires.1, valid-header c.requires.0))
     loop-holds
     (λ c κs.
-    let l = c.before in
-    let pre = (start l).requires.0 in
-    (pre, (omega (arith, same-buckets pre), omega (arith, l.loop-bucket.invariant.1, l.loop-bucket.invariant.2, valid-header pre))))
+    let pre = c.requires.0 in
+    (pre, (omega (arith, same-buckets pre), omega (arith, c.loop-bucket.invariant.1, c.loop-bucket.invariant.2, valid-header pre))))
     (λ c. c.in-Record.keys1)
     reach-requires
     returns

@@ -13,24 +13,22 @@ use Rattle.listing.proofs.Position.reach.Tie as tie
 
 go-further-requires : tie.Need-go_further-requires
 go-further-requires c κs =
-    let pre = c.before.before.requires in
+    let pre = c.requires in
     let own = pre.1.1.0 c.if-walked-passed.true in
     let keeps = (walked-goes _ _ _ refl pre.1.1.1).keeps in
     (pre.0, ((pre.1.0.0, omega (arith, own), omega (arith, own, pre.1.0.2)), λ m l. keeps m (omega arith)))
 
 returns : tie.Need-returns-then-walked-passed
 returns c =
-    let start = c.before.before.before in
-    let a = start.args in
-    let own = start.requires.1.1.0 c.before.if-walked-passed.true in
+    let a = c.args in
+    let own = c.requires.1.1.0 c.if-walked-passed.true in
     c.go_further.ensures ∙ ap (λ n. reached a.self a.bucket n (chain_of Short a.cache.now a.bucket n).after) (sym own)
 
 returns-2 : tie.Need-returns-else-walked-passed
 returns-2 c =
-    let start = c.before.before.before in
-    let a = start.args in
-    let all = le_antisymm c.before.if-walked-passed.false start.requires.1.0.1 in
-    let next = ap (λ n. (chain_of Short a.cache.now a.bucket n).after) all ∙ start.requires.1.1.1 in
+    let a = c.args in
+    let all = le_antisymm c.if-walked-passed.false c.requires.1.0.1 in
+    let next = ap (λ n. (chain_of Short a.cache.now a.bucket n).after) all ∙ c.requires.1.1.1 in
     c.hand_back.ensures ∙ ap (reached a.self a.bucket a.passed) (sym next)
 
 pub reach_spec : {M : Type 1} → statement M
@@ -38,6 +36,6 @@ reach_spec =
     tie.close
     (tie.spec
     go-further-requires
-    (λ c κs. let pre = c.before.before.requires in omega (arith, pre.1.0.2, valid-header pre.0))
+    (λ c κs. let pre = c.requires in omega (arith, pre.1.0.2, valid-header pre.0))
     returns
     returns-2)

@@ -31,21 +31,18 @@ loop-holds c = (omega arith, refl, omega arith, sym (put-nothing _ _))
 
 loop-again : tie.Need-loop-i-preserved invariant-loop decreases-loop
 loop-again c =
-    let stored = c.before.before in
-    let l = stored.before.before.before in
-    let a = l.before.before.args in
-    let here : a.at + length (joined cleared l.loop-i.i) ≡ l.loop-i.place = omega (arith, wide l.loop-i.i) in (
+    let a = c.args in
+    let here : a.at + length (joined cleared c.loop-i.i) ≡ c.loop-i.place = omega (arith, wide c.loop-i.i) in (
       omega arith,
       omega arith,
       omega arith,
-      put_next a.out.now a.at cleared l.loop-i.i l.loop-i.place here (omega (arith, bytes-length 4 end_value)) l.loop-i.invariant.3 stored.put_u32.ensures,
+      put_next a.out.now a.at cleared c.loop-i.i c.loop-i.place here (omega (arith, bytes-length 4 end_value)) c.loop-i.invariant.3 c.put_u32.ensures,
     )
 
 returns : tie.Need-returns invariant-loop decreases-loop
 returns c =
-    let l = c.before in
-    let all : l.loop-i.i ≡ l.before.before.args.n = omega arith in
-    l.loop-i.invariant.3 ∙ rw all
+    let all : c.loop-i.i ≡ c.args.n = omega arith in
+    c.loop-i.invariant.3 ∙ rw all
 
 pub clear_spec : {M : Type 1} → statement M
 clear_spec =

@@ -13,16 +13,14 @@ use Rattle.passes.proofs.head.header.Tie as tie
 
 returns : tie.Need-returns
 returns c =
-    let first = c.before.before.before.before.before.before.before.before.before.before.before.before.before.before in
-    let start = first.before.before.before in
-    let a = start.args in
+    let a = c.args in
     let s = a.out.now in
     let version = bytes 2 1 ++ bytes 2 0 in
     let wide : length version ≡ 4 = simp (length-append, bytes-length) in
     let wider : length (version ++ bytes 4 12) ≡ 8 = simp (length-append, bytes-length) in
-    let two = put_then s 0 (bytes 2 1) (bytes 2 0) {q = 2} (omega (arith, bytes-length 2 1)) (omega (arith, bytes-length 2 0, start.requires)) first.put_u16.ensures c.before.before.before.before.before.before.before.before.before.before.put_u16-2.ensures in
-    let three = put_then s 0 version (bytes 4 12) {q = 4} (omega arith) (omega (arith, bytes-length 4 12, start.requires)) two c.before.before.before.before.before.before.put_u32.ensures in
-    put_then s 0 (version ++ bytes 4 12) (bytes 4 a.directories) {q = 8} (omega arith) (omega (arith, bytes-length 4 a.directories, start.requires)) three c.before.before.put_u32-2.ensures
+    let two = put_then s 0 (bytes 2 1) (bytes 2 0) {q = 2} (omega (arith, bytes-length 2 1)) (omega (arith, bytes-length 2 0, c.requires)) c.put_u16.ensures c.put_u16-2.ensures in
+    let three = put_then s 0 version (bytes 4 12) {q = 4} (omega arith) (omega (arith, bytes-length 4 12, c.requires)) two c.put_u32.ensures in
+    put_then s 0 (version ++ bytes 4 12) (bytes 4 a.directories) {q = 8} (omega arith) (omega (arith, bytes-length 4 a.directories, c.requires)) three c.put_u32-2.ensures
 
 pub header_spec : {M : Type 1} → statement M
 header_spec =

@@ -15,9 +15,7 @@ use Rattle.passes.proofs.head.tables.Tie as tie
 
 returns : tie.Need-returns
 returns c =
-    let first = c.before.before.before.before.before.before.before.before.before.before in
-    let start = first.before.before.before in
-    let a = start.args in
+    let a = c.args in
     let s = a.out.now in
     let head = bytes 2 1 ++ bytes 2 0 ++ bytes 4 12 ++ bytes 4 a.directories in
     let count = bytes 4 a.buckets in
@@ -25,8 +23,8 @@ returns c =
     let wide : length head ≡ 12 = simp (length-append, bytes-length) in
     let wider : length (head ++ count) ≡ 16 = simp (length-append, bytes-length) in
     let all : length fields ≡ 4 * a.buckets = joined_length (λ i. bytes 4 end_value) 4 (λ i. bytes-length 4 end_value) a.buckets in
-    let two = put_then s 0 head count {q = 12} (omega arith) (omega (arith, bytes-length 4 a.buckets, start.requires)) first.header.ensures c.before.before.before.before.before.before.put_u32.ensures in
-    put_then s 0 (head ++ count) fields {q = 16} (omega arith) (omega (arith, start.requires)) two c.before.before.clear.ensures
+    let two = put_then s 0 head count {q = 12} (omega arith) (omega (arith, bytes-length 4 a.buckets, c.requires)) c.header.ensures c.put_u32.ensures in
+    put_then s 0 (head ++ count) fields {q = 16} (omega arith) (omega (arith, c.requires)) two c.clear.ensures
     ∙ ap (put s 0) (append_assoc head count fields)
 
 pub tables_spec : {M : Type 1} → statement M

@@ -16,19 +16,17 @@ use Rattle.passes.proofs.putting.directories.Tie as tie
 
 returns : tie.Need-returns
 returns c =
-    let counted = c.before.before.before.before.before.before in
-    let start = counted.before.before.before.before in
-    let a = start.args in
+    let a = c.args in
     let f : ℕ → List ℕ = λ i. bytes 4 (a.strings + length (paths_up_to (catalogue_in a.catalogue.now) i)) in
     let wide = joined_length f 4 (λ i. bytes-length 4 _) a.n in
-    put_then a.out.now a.at (bytes 4 a.n) (joined f a.n) (ap (λ m. a.at + m) (bytes-length 4 a.n)) (omega (arith, wide, start.requires.1.0))
-    counted.put_u32.ensures c.before.before.entries.ensures
+    put_then a.out.now a.at (bytes 4 a.n) (joined f a.n) (ap (λ m. a.at + m) (bytes-length 4 a.n)) (omega (arith, wide, c.requires.1.0))
+    c.put_u32.ensures c.entries.ensures
 
 pub directories_spec : {M : Type 1} → statement M
 directories_spec =
     tie.close
     (tie.spec
-    (λ c. omega (arith, few-paths c.before.before.before.requires.0.2))
+    (λ c. omega (arith, few-paths c.requires.0.2))
     (λ c κs. search rules)
     (λ c. search rules)
     (λ c κs. search rules)

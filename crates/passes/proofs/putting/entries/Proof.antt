@@ -34,9 +34,6 @@ loop-holds : tie.Need-loop-i-init invariant-loop decreases-loop
 unfolding joined
 loop-holds c = (omega arith, pass-first _ _ _ _ _, omega arith)
 
-abbrev start : tie.At-loop-i invariant-loop decreases-loop → tie.Start invariant-loop decreases-loop
-start l = l.before.before.before
-
 all_room : (s : tie.Start invariant-loop decreases-loop) →
     let a = s.args in a.at + length (joined (entry a.catalogue.now a.strings) a.n) ≤ length a.out.now
 all_room s =
@@ -46,54 +43,47 @@ all_room s =
 
 -- the path at hand, room for its entry, and its string's offset
 module _ (c : tie.In-loop-i invariant-loop decreases-loop) where
-  abbrev l : tie.At-loop-i invariant-loop decreases-loop
-  l = c.before
+  ends : let s = c.args.catalogue.now in path_end s c.loop-i.here ≤ length s
+  ends = path-ends c.requires.0.2 c.loop-i-test.true c.loop-i.invariant.1.here
 
-  ends : let s = (start l).args.catalogue.now in path_end s l.loop-i.here ≤ length s
-  ends = path-ends (start l).pre.0.2 c.loop-i-test.true l.loop-i.inv.1.here
+  size : let s = c.args.catalogue.now in path_length s c.loop-i.here + 1 ≡ length (text_and_zero (nth_path (catalogue_in s) c.loop-i.i))
+  size = path-size c.requires.0.2 c.loop-i-test.true c.loop-i.invariant.1.here
 
-  size : let s = (start l).args.catalogue.now in path_length s l.loop-i.here + 1 ≡ length (text_and_zero (nth_path (catalogue_in s) l.loop-i.i))
-  size = path-size (start l).pre.0.2 c.loop-i-test.true l.loop-i.inv.1.here
-
-  room : l.loop-i.place + 4 ≤ length l.loop-i.out
+  room : c.loop-i.place + 4 ≤ length c.loop-i.out
   room =
-      let a = (start l).args in
-      omega (arith, bytes-length 4 (a.strings + length (paths_up_to (catalogue_in a.catalogue.now) l.loop-i.i)), pass-room _ _ _ _ _ l.loop-i.inv.1 c.loop-i-test.true (all_room (start l)))
+      let a = c.args in
+      omega (arith, bytes-length 4 (a.strings + length (paths_up_to (catalogue_in a.catalogue.now) c.loop-i.i)), pass-room _ _ _ _ _ c.loop-i.invariant.1 c.loop-i-test.true (all_room c.before.before.before.before))
 
-  small : l.loop-i.string + (path_length (start l).args.catalogue.now l.loop-i.here + 1) < 2 ^ 32
+  small : c.loop-i.string + (path_length c.args.catalogue.now c.loop-i.here + 1) < 2 ^ 32
   small =
-      let a = (start l).args in
+      let a = c.args in
       let d = catalogue_in a.catalogue.now in
-      omega (arith, size, l.loop-i.inv.2, part-inside (λ j. text_and_zero (nth_path d j)) a.n l.loop-i.i c.loop-i-test.true, (start l).pre.1.1)
+      omega (arith, size, c.loop-i.invariant.2, part-inside (λ j. text_and_zero (nth_path d j)) a.n c.loop-i.i c.loop-i-test.true, c.requires.1.1)
 
   -- and where the next one's begins
-  strings-next : let d = catalogue_in (start l).args.catalogue.now in
-      length (paths_up_to d (l.loop-i.i + 1)) ≡ length (paths_up_to d l.loop-i.i) + (path_length (start l).args.catalogue.now l.loop-i.here + 1)
+  strings-next : let d = catalogue_in c.args.catalogue.now in
+      length (paths_up_to d (c.loop-i.i + 1)) ≡ length (paths_up_to d c.loop-i.i) + (path_length c.args.catalogue.now c.loop-i.here + 1)
   unfolding joined
   strings-next =
-      let d = catalogue_in (start l).args.catalogue.now in
-      rw add-one (omega (arith, size, length-append (paths_up_to d l.loop-i.i) (text_and_zero (nth_path d l.loop-i.i))))
+      let d = catalogue_in c.args.catalogue.now in
+      rw add-one (omega (arith, size, length-append (paths_up_to d c.loop-i.i) (text_and_zero (nth_path d c.loop-i.i))))
 
 loop-again : tie.Need-loop-i-preserved invariant-loop decreases-loop
 loop-again c =
-    let put = c.before.before.before.before in
-    let turn = put.before.before in
-    let l = turn.before in
-    let a = (start l).args in
+    let a = c.args in
     let s = a.catalogue.now in
-    let next = strings-next turn in (
+    let next = strings-next c.before.before.before.before.before.before in (
       omega arith,
-      pass-next _ _ _ _ _ l.loop-i.invariant.1 turn.loop-i-test.true (all_room (start l))
-          (put.put_u32.ensures ∙ ap (λ n. written.put l.loop-i.out l.loop-i.place (bytes 4 n)) l.loop-i.invariant.2)
-          (omega arith) c.path_end-here.ensures (omega (arith, bytes-length 4 (a.strings + length (paths_up_to (catalogue_in s) l.loop-i.i)))),
-      omega (arith, c.before.u16_at.ensures, next),
+      pass-next _ _ _ _ _ c.loop-i.invariant.1 c.loop-i-test.true (all_room c.before.before.before.before.before.before.before.before.before.before)
+          (c.put_u32.ensures ∙ ap (λ n. written.put c.loop-i.out c.loop-i.place (bytes 4 n)) c.loop-i.invariant.2)
+          (omega arith) c.path_end-here.ensures (omega (arith, bytes-length 4 (a.strings + length (paths_up_to (catalogue_in s) c.loop-i.i)))),
+      omega (arith, c.u16_at.ensures, next),
     )
 
 returns : tie.Need-returns invariant-loop decreases-loop
 returns c =
-    let l = c.before in
-    let all : l.loop-i.i ≡ (start l).args.n = omega arith in
-    (pass-done _ _ _ _ _ l.loop-i.invariant.1 all).0
+    let all : c.loop-i.i ≡ c.args.n = omega arith in
+    (pass-done _ _ _ _ _ c.loop-i.invariant.1 all).0
 
 pub entries_spec : {M : Type 1} → statement M
 entries_spec =

@@ -22,22 +22,16 @@ decreases-loop catalogue first icons out₀ at icon₀ place₀ i₀ out icon pl
 loop-holds : tie.Need-loop-i-init invariant-loop decreases-loop
 loop-holds c = (omega arith, pass-first _ _ _ _ _)
 
-abbrev start : tie.At-loop-i invariant-loop decreases-loop → tie.Start invariant-loop decreases-loop
-start l = l.before.before.before
-
 -- the icon at hand, and room for its name
 module _ (c : tie.In-loop-i invariant-loop decreases-loop) where
-  ends : let l = c.before in
-      let s = (start l).args.catalogue.now in icon_end s l.loop-i.icon ≤ length s
-  ends = icon-ends (start c.before).pre.0.1 c.loop-i-test.true c.before.loop-i.invariant.1.here
+  ends : let s = c.args.catalogue.now in icon_end s c.loop-i.icon ≤ length s
+  ends = icon-ends c.requires.0.1 c.loop-i-test.true c.loop-i.invariant.1.here
 
-  size : let l = c.before in
-      let s = (start l).args.catalogue.now in name_length s l.loop-i.icon + 1 ≡ length (text_and_zero (nth_icon (catalogue_in s) l.loop-i.i).name-place)
-  size = name-size (start c.before).pre.0.1 c.loop-i-test.true c.before.loop-i.invariant.1.here
+  size : let s = c.args.catalogue.now in name_length s c.loop-i.icon + 1 ≡ length (text_and_zero (nth_icon (catalogue_in s) c.loop-i.i).name-place)
+  size = name-size c.requires.0.1 c.loop-i-test.true c.loop-i.invariant.1.here
 
-  room : let l = c.before in
-      let s = (start l).args.catalogue.now in l.loop-i.place + length (text_and_zero (nth_icon (catalogue_in s) l.loop-i.i).name-place) ≤ length l.loop-i.out
-  room = pass-room _ _ _ _ _ c.before.loop-i.invariant.1 c.loop-i-test.true (start c.before).pre.1
+  room : let s = c.args.catalogue.now in c.loop-i.place + length (text_and_zero (nth_icon (catalogue_in s) c.loop-i.i).name-place) ≤ length c.loop-i.out
+  room = pass-room _ _ _ _ _ c.loop-i.invariant.1 c.loop-i-test.true c.requires.1
 
 name-requires : tie.Need-name-place-requires invariant-loop decreases-loop
 name-requires c κs = (ends c.before, omega (arith, size c.before, room c.before))
@@ -47,15 +41,14 @@ loop-again c =
     let put-name = c.before.before.before in
     let turn = put-name.before.before in
     let l = turn.before in
-    let this = put-name.name-place.ensures.0 ∙ ap (put l.loop-i.out l.loop-i.place) (name-is (start l).requires.0.1 turn.loop-i-test.true l.loop-i.invariant.1.here) in
+    let this = put-name.name-place.ensures.0 ∙ ap (put l.loop-i.out l.loop-i.place) (name-is l.requires.0.1 turn.loop-i-test.true l.loop-i.invariant.1.here) in
     let more = put-name.name-place.ensures.1 ∙ ap (λ n. l.loop-i.place + n) (size turn) in
-    (omega arith, pass-next _ _ _ _ _ l.loop-i.invariant.1 turn.loop-i-test.true (start l).requires.1 this (omega arith) c.icon_end-icon.ensures more)
+    (omega arith, pass-next _ _ _ _ _ l.loop-i.invariant.1 turn.loop-i-test.true l.requires.1 this (omega arith) c.icon_end-icon.ensures more)
 
 returns : tie.Need-returns invariant-loop decreases-loop
 returns c =
-    let l = c.before in
-    let all : l.loop-i.i ≡ (start l).args.icons = omega arith in
-    (pass-done _ _ _ _ _ l.loop-i.invariant.1 all).0
+    let all : c.loop-i.i ≡ c.args.icons = omega arith in
+    (pass-done _ _ _ _ _ c.loop-i.invariant.1 all).0
 
 pub names_spec : {M : Type 1} → statement M
 names_spec =

@@ -10,10 +10,9 @@ use Rattle.passes.proofs.putting.path.Tie as tie
 
 returns : tie.Need-returns
 returns c =
-    let read = c.before.before.before.before in
-    let a = read.before.before.before.args in
-    let size = read.u16_at-length.ensures in (
-      c.before.before.put_string.ensures
+    let a = c.args in
+    let size = c.u16_at-length.ensures in (
+      c.put_string.ensures
           ∙ ap (λ n. put a.out.now a.place (text_and_zero (take n (drop (a.path + 2) a.catalogue.now)))) size,
       ap (λ n. a.place + (n + 1)) size,
     )

@@ -14,18 +14,13 @@ use Rattle.passes.proofs.record.append.Tie as tie
 
 returns : tie.Need-returns
 returns c =
-    let field = c.before.before in
-    let list = field.before.before.before.before in
-    let name = list.before.before.before.before in
-    let chain = name.before.before.before.before in
-    let start = chain.before.before.before in
-    let a = start.args in
+    let a = c.args in
     let s = a.out.now in
     let end = bytes 4 end_value in
     let wide : length (end ++ bytes 4 a.name) ≡ 8 = simp (length-append, bytes-length) in
-    let two = put_then s a.at end (bytes 4 a.name) {q = a.at + 4} (omega (arith, bytes-length 4 end_value)) (omega (arith, bytes-length 4 a.name, start.requires)) chain.put_u32.ensures name.put_u32-2.ensures in
-    let three = put_then s a.at (end ++ bytes 4 a.name) (bytes 4 a.images) {q = a.at + 8} (omega arith) (omega (arith, bytes-length 4 a.images, start.requires)) two list.put_u32-3.ensures in
-    field.put_u32-4.ensures ∙ ap (λ o. put o a.field (bytes 4 a.at)) three
+    let two = put_then s a.at end (bytes 4 a.name) {q = a.at + 4} (omega (arith, bytes-length 4 end_value)) (omega (arith, bytes-length 4 a.name, c.requires)) c.put_u32.ensures c.put_u32-2.ensures in
+    let three = put_then s a.at (end ++ bytes 4 a.name) (bytes 4 a.images) {q = a.at + 8} (omega arith) (omega (arith, bytes-length 4 a.images, c.requires)) two c.put_u32-3.ensures in
+    c.put_u32-4.ensures ∙ ap (λ o. put o a.field (bytes 4 a.at)) three
 
 pub append_spec : {M : Type 1} → statement M
 append_spec =

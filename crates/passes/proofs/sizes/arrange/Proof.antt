@@ -33,11 +33,11 @@ sizes c =
     }
 
 lists-end-requires : tie.Need-lists_end-directories-requires
-lists-end-requires c κs = let z = sizes c.before in ((c.before.args.parts.paths, c.before.requires.0), omega arith)
+lists-end-requires c κs = let z = sizes c.before in ((c.args.parts.paths, c.requires.0), omega arith)
 
 returns : tie.Need-returns
 returns c =
-    let a = c.before.before.args in
+    let a = c.args in
     let d = catalogue_in a.catalogue.now in
     let z = sizes c.before.before in
     let directories : c.lists_end-directories.result ≡ directories_begin d a.buckets = omega (arith, c.lists_end-directories.ensures) in

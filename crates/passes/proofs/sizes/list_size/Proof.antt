@@ -9,8 +9,8 @@ use Rattle.passes.proofs.sizes.list_size.Tie as tie
 
 returns : tie.Need-returns
 returns c =
-    let a = c.before.before.before.args in
-    let count = c.u16_at.ensures ∙ ap (λ n. be 2 a.catalogue.now (a.icon + 1 + n)) c.before.byte.ensures.0 in
+    let a = c.args in
+    let count = c.u16_at.ensures ∙ ap (λ n. be 2 a.catalogue.now (a.icon + 1 + n)) c.byte.ensures.0 in
     (ap (λ m. 4 + 8 * m) count, omega arith)
 
 pub list_size_spec : {M : Type 1} → statement M

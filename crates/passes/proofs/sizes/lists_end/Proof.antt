@@ -27,46 +27,37 @@ loop-holds : tie.Need-loop-i-init invariant-loop decreases-loop
 unfolding joined row_end
 loop-holds c = (omega arith, refl, omega arith)
 
-abbrev start : tie.At-loop-i invariant-loop decreases-loop → tie.Start invariant-loop decreases-loop
-start l = l.before.before
-
 -- the icon at hand, how long its list is, and where that ends
 module _ (c : tie.In-loop-i invariant-loop decreases-loop) where
-  abbrev l : tie.At-loop-i invariant-loop decreases-loop
-  l = c.before
+  ends : let s = c.args.catalogue.now in icon_end s c.loop-i.icon ≤ length s
+  ends = icon-ends c.requires.0.1 c.loop-i-test.true c.loop-i.invariant.1
 
-  ends : let s = (start l).args.catalogue.now in icon_end s l.loop-i.icon ≤ length s
-  ends = icon-ends (start l).pre.0.1 c.loop-i-test.true l.loop-i.inv.1
+  size : let s = c.args.catalogue.now in 4 + 8 * image_count s c.loop-i.icon ≡ length (list_bytes (nth_icon (catalogue_in s) c.loop-i.i))
+  size = list-size c.requires.0.1 c.loop-i-test.true c.loop-i.invariant.1
 
-  size : let s = (start l).args.catalogue.now in 4 + 8 * image_count s l.loop-i.icon ≡ length (list_bytes (nth_icon (catalogue_in s) l.loop-i.i))
-  size = list-size (start l).pre.0.1 c.loop-i-test.true l.loop-i.inv.1
-
-  small : let s = (start l).args.catalogue.now in l.loop-i.end + (4 + 8 * image_count s l.loop-i.icon) < 2 ^ 32
+  small : let s = c.args.catalogue.now in c.loop-i.end + (4 + 8 * image_count s c.loop-i.icon) < 2 ^ 32
   small =
-      let a = (start l).args in
+      let a = c.args in
       let d = catalogue_in a.catalogue.now in
-      omega (arith, size, l.loop-i.inv.2, part-inside (λ j. list_bytes (nth_icon d j)) a.icons l.loop-i.i c.loop-i-test.true, (start l).pre.1)
+      omega (arith, size, c.loop-i.invariant.2, part-inside (λ j. list_bytes (nth_icon d j)) a.icons c.loop-i.i c.loop-i-test.true, c.requires.1)
 
-  more : let d = catalogue_in (start l).args.catalogue.now in
-      length (lists_up_to d (l.loop-i.i + 1)) ≡ length (lists_up_to d l.loop-i.i) + length (list_bytes (nth_icon d l.loop-i.i))
+  more : let d = catalogue_in c.args.catalogue.now in
+      length (lists_up_to d (c.loop-i.i + 1)) ≡ length (lists_up_to d c.loop-i.i) + length (list_bytes (nth_icon d c.loop-i.i))
   unfolding joined
-  more = let d = catalogue_in (start l).args.catalogue.now in ap (λ n. length (lists_up_to d n)) (add-one l.loop-i.i) ∙ length-append (lists_up_to d l.loop-i.i) _
+  more = let d = catalogue_in c.args.catalogue.now in ap (λ n. length (lists_up_to d n)) (add-one c.loop-i.i) ∙ length-append (lists_up_to d c.loop-i.i) _
 
 loop-again : tie.Need-loop-i-preserved invariant-loop decreases-loop
 loop-again c =
-    let sized = c.before in
-    let turn = sized.before in
-    let l = turn.before in (
+    (
       omega arith,
-      c.icon_end-icon.ensures ∙ ap (icon_end _) l.loop-i.invariant.1 ∙ sym (end-next (icon_end _) l.loop-i.i _) ∙ rw add-one,
-      omega (arith, sized.list_size-end.ensures.0, size turn, more turn, l.loop-i.invariant.2),
+      c.icon_end-icon.ensures ∙ ap (icon_end _) c.loop-i.invariant.1 ∙ sym (end-next (icon_end _) c.loop-i.i _) ∙ rw add-one,
+      omega (arith, c.list_size-end.ensures.0, size c.before.before, more c.before.before, c.loop-i.invariant.2),
     )
 
 returns : tie.Need-returns invariant-loop decreases-loop
 returns c =
-    let l = c.before in
-    let all : l.loop-i.i ≡ (start l).args.icons = omega arith in
-    l.loop-i.invariant.2 ∙ rw all
+    let all : c.loop-i.i ≡ c.args.icons = omega arith in
+    c.loop-i.invariant.2 ∙ rw all
 
 pub lists_end_spec : {M : Type 1} → statement M
 lists_end_spec =

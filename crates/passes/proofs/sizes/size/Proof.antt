@@ -14,7 +14,7 @@ short : (c : tie.Start) → length c.args.catalogue.now < 2 ^ 30
 short c = let h = c.requires.0 in catalogue-short c.args.catalogue.now h.are-bytes h.good
 
 returns : tie.Need-returns
-returns c = let s = c.before.before in sym (size_is s.requires.0 s.args.buckets)
+returns c = sym (size_is c.requires.0 c.args.buckets)
 
 pub size_spec : {M : Type 1} → statement M
 size_spec =
@@ -23,8 +23,8 @@ size_spec =
     (λ c. search rules)
     (λ c. search rules)
     (λ c. search rules)
-    (λ c. omega (arith, few-icons c.before.requires.0))
-    (λ c. omega (arith, few-icons c.before.requires.0, short c.before))
-    (λ c. omega (arith, few-paths c.before.before.requires.0))
-    (λ c. omega (arith, few-icons c.before.before.requires.0, few-paths c.before.before.requires.0, short c.before.before))
+    (λ c. omega (arith, few-icons c.requires.0))
+    (λ c. omega (arith, few-icons c.requires.0, short c.before))
+    (λ c. omega (arith, few-paths c.requires.0))
+    (λ c. omega (arith, few-icons c.requires.0, few-paths c.requires.0, short c.before.before))
     returns)

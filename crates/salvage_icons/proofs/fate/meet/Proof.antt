@@ -13,45 +13,38 @@ use Rattle.salvage_icons.proofs.fate.meet.Statement.{statement}
 use Rattle.salvage_icons.proofs.fate.meet.Tie as tie
 
 judge-name-requires : tie.Need-judge_name-fault-requires
-judge-name-requires c κs = let start = c.before.before in (start.requires.0, (start.requires.1, λ e. absurd (false≢true e)))
+judge-name-requires c κs = (c.requires.0, (c.requires.1, λ e. absurd (false≢true e)))
 
 returns : tie.Need-returns-then-fault-ne0
-returns c ts known = let judged = c.before.before in meets-misnamed _ _ _ known c.if-fault-ne0.true judged.judge_name-fault.ensures
+returns c ts known = meets-misnamed _ _ _ known c.if-fault-ne0.true c.judge_name-fault.ensures
 
 -- the name has no fault
-named : (c : tie.Else-fault-ne0) → let a = c.before.before.before.before.before.args in (name_fault a.cache.now a.bucket a.«record»).number ≡ 0
-named c = sym (same_number c.before.before.judge_name-fault.ensures) ∙ c.if-fault-ne0.false
+named : (c : tie.Else-fault-ne0) → let a = c.args in (name_fault a.cache.now a.bucket a.«record»).number ≡ 0
+named c = sym (same_number c.judge_name-fault.ensures) ∙ c.if-fault-ne0.false
 
 -- what is judged of the image list
 listed : (c : tie.After-valid_image_list)
-    → let a = c.before.before.before.before.before.before.before.args in
+    → let a = c.args in
     c.valid_image_list.result ≡ valid_image_list a.cache.now (images_at a.cache.now a.«record»)
-listed c = rw (← c.before.u32_at-list.ensures) c.valid_image_list.ensures
+listed c = rw (← c.u32_at-list.ensures) c.valid_image_list.ensures
 
 returns-2 : tie.Need-returns-then-not-valid_image_list
 returns-2 c ts known =
-    let judged = c.before in
-    meets-unlisted _ _ _ (named judged.before.before) known (sym (listed judged) ∙ not-true _ c.if-not-valid_image_list.true)
+    meets-unlisted _ _ _ (named c.before.before.before) known (sym (listed c.before) ∙ not-true _ c.if-not-valid_image_list.true)
 
 -- the name whose offset is asked for
 read : (c : tie.After-u32_at-name) →
-    let a = c.before.before.before.before.before.before.before.before.before.args in
+    let a = c.args in
     string (drop c.u32_at-name.result a.cache.now) ≡ name_of a.cache.now a.«record»
-read c = ap (λ p. string (drop p c.before.before.before.before.before.before.before.before.before.args.cache.now)) c.u32_at-name.ensures
+read c = ap (λ p. string (drop p c.args.cache.now)) c.u32_at-name.ensures
 
 returns-3 : tie.Need-returns-then-met
 returns-3 c ts known =
-    let asked = c.before.before.before in
-    let name = asked.before.before in
-    let judged = name.before.before in
-    meets-equal _ _ _ (named judged.before.before) (sym (listed judged) ∙ not-false _ name.before.if-not-valid_image_list.false) (read name) (rw c.if-met.true at (asked.met.ensures ts known))
+    meets-equal _ _ _ (named c.before.before.before.before.before.before.before.before.before) (sym (listed c.before.before.before.before.before.before.before) ∙ not-false _ c.if-not-valid_image_list.false) (read c.before.before.before.before.before) (rw c.if-met.true at (c.met.ensures ts known))
 
 returns-4 : tie.Need-returns
 returns-4 c ts known =
-    let asked = c.before.before.before in
-    let name = asked.before.before in
-    let judged = name.before.before in
-    meets-kept _ _ _ (named judged.before.before) (sym (listed judged) ∙ not-false _ name.before.if-not-valid_image_list.false) (read name) (rw c.if-met.false at (asked.met.ensures ts known))
+    meets-kept _ _ _ (named c.before.before.before.before.before.before.before.before.before) (sym (listed c.before.before.before.before.before.before.before) ∙ not-false _ c.if-not-valid_image_list.false) (read c.before.before.before.before.before) (rw c.if-met.false at (c.met.ensures ts known))
 
 pub meet_spec : {M : Type 1} → statement M
 meet_spec =

@@ -9,8 +9,8 @@ use Rattle.salvage_icons.proofs.images.list.Tie as tie
 
 returns : tie.Need-returns
 returns c =
-    let at = c.before.u32_at-at.ensures in
-    let count = c.u32_at.ensures ∙ ap (be 4 c.before.before.before.args.cache.now) at in
+    let at = c.u32_at-at.ensures in
+    let count = c.u32_at.ensures ∙ ap (be 4 c.args.cache.now) at in
     λ j. record { first = at j + 4; count = count j }
 
 pub list_spec : {M : Type 1} → statement M
@@ -18,9 +18,9 @@ list_spec =
     tie.close
     (tie.spec
     (λ c. search rules)
-    (λ c κs. omega (arith, c.before.requires.inside))
+    (λ c κs. omega (arith, c.requires.inside))
     (λ c. search rules)
     (λ c. search rules)
-    (λ c κs. omega (arith, c.u32_at-at.ensures, c.before.before.requires.listed))
+    (λ c κs. omega (arith, c.u32_at-at.ensures, c.requires.listed))
     (λ c. search rules)
     returns)

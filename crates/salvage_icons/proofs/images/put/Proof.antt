@@ -18,63 +18,49 @@ invariant-loop cache t closed «record» out₀ at valid first m stay₀ next₀
 abbrev decreases-loop : tie.decreases-loop-i
 decreases-loop cache t closed «record» out₀ at valid first m stay₀ next₀ i₀ out stay next i = m - i
 
-abbrev start : tie.At-loop-i invariant-loop decreases-loop → tie.Start invariant-loop decreases-loop
-start l = l.before.before.before.before.before.before
-
 loop-holds : tie.Need-loop-i-init invariant-loop decreases-loop
 loop-holds c =
-    let s = c.before.before.before.before.before in
-    (scan _ _ c.before.valid_words-valid.ensures (same-directories s.requires.0) c.list-all.ensures, omega arith, put-none _ _ _ _)
+    (scan _ _ c.valid_words-valid.ensures (same-directories c.requires.0) c.list-all.ensures, omega arith, put-none _ _ _ _)
 
 -- the image at hand lies inside, and there are few
 module _ (c : tie.In-loop-i invariant-loop decreases-loop) where
-  abbrev l : tie.At-loop-i invariant-loop decreases-loop
-  l = c.before
+  inside : c.list-all.result.first + 8 * c.loop-i.i + 8 ≤ length c.args.cache.now
+  inside = omega (arith, c.loop-i.invariant.0.first, c.loop-i.invariant.0.count, c.requires.2.listed)
 
-  inside : l.before.list-all.result.first + 8 * l.loop-i.i + 8 ≤ length (start l).args.cache.now
-  inside = omega (arith, l.loop-i.inv.0.first, l.loop-i.inv.0.count, (start l).pre.2.listed)
-
-  few : (l.loop-i.i + 1 ≤ 1024) × (length (start l).args.cache.now ≤ 16777216)
-  few = (omega (arith, l.loop-i.inv.0.count, (start l).pre.2.few), (valid-header (start l).pre.0).not-too-long)
+  few : (c.loop-i.i + 1 ≤ 1024) × (length c.args.cache.now ≤ 16777216)
+  few = (omega (arith, c.loop-i.invariant.0.count, c.requires.2.few), (valid-header c.requires.0).not-too-long)
 
 keep-image-requires : tie.Need-keep_image-kept-requires invariant-loop decreases-loop
-keep-image-requires c κs = let s = start c.before in ((s.pre.0, c.before.loop-i.invariant.0.words, inside c), s.pre.1)
+keep-image-requires c κs = ((c.requires.0, c.loop-i.invariant.0.words, inside c), c.requires.1)
 
 put-image-requires : tie.Need-put_image-next-requires invariant-loop decreases-loop
 put-image-requires c κs =
-    let turn = c.before.before.before.before.before in
-    (inside turn, omega (arith, few turn, turn.before.loop-i.invariant.2.next-few, (start turn.before).pre.3))
+    (inside c.before.before.before.before.before, omega (arith, few c.before.before.before.before.before, c.loop-i.invariant.2.next-few, c.requires.3))
 
 loop-again : tie.Need-loop-i-preserved-in-Stays invariant-loop decreases-loop
 loop-again c =
-    let done = c.before.before in
-    let told = done.before.before.before in
-    let judged = told.before.before in
-    let h = judged.before.before.loop-i.invariant in
-    let stays = rw h.0.first at (rw told.kept-1.given.1 at judged.keep_image-kept.ensures) in
-    (h.0, omega arith, put-stays h.2 stays (rw h.0.first at done.put_image-next.ensures))
+    let h = c.loop-i.invariant in
+    let stays = rw h.0.first at (rw c.kept-1.given.1 at c.keep_image-kept.ensures) in
+    (h.0, omega arith, put-stays h.2 stays (rw h.0.first at c.put_image-next.ensures))
 
 loop-again-2 : tie.Need-loop-i-preserved invariant-loop decreases-loop
 loop-again-2 c =
-    let done = c.before.before in
-    let h = done.before.before.loop-i.invariant in
-    let told = rw h.0.first at (rw c.enum_told-1.given.1 at done.keep_image-kept.ensures) in
+    let h = c.loop-i.invariant in
+    let told = rw h.0.first at (rw c.enum_told-1.given.1 at c.keep_image-kept.ensures) in
     (h.0, omega arith, put-goes h.2 told)
 
 -- where the count goes
 short-requires : tie.Need-short-requires invariant-loop decreases-loop
-short-requires c κs = omega (arith, (start c.before.before).pre.3)
+short-requires c κs = omega (arith, c.requires.3)
 
 returns : tie.Need-returns invariant-loop decreases-loop
 returns c =
-    let counted = c.before.before in
-    let l = counted.before.before.before in
-    let h = l.loop-i.invariant in
-    let s = start l in
-    let all : l.loop-i.i ≡ images s.args.cache.now s.args.«record» = omega (arith, h.0.count) in
-    let behind = counted.short.ensures.next in
-    let next : s.args.at + 2 ≡ counted.short.result = omega (arith, behind, bytes-length 2 l.loop-i.stay) in
-    (put_all h.2 all (rw next counted.short.ensures), omega (arith, h.2.next-few, s.pre.2.few))
+    let h = c.loop-i.invariant in
+    let s = in
+    let all : c.loop-i.i ≡ images s.args.cache.now s.args.«record» = omega (arith, h.0.count) in
+    let behind = c.short.ensures.next in
+    let next : s.args.at + 2 ≡ c.short.result = omega (arith, behind, bytes-length 2 c.loop-i.stay) in
+    (put_all h.2 all (rw next c.short.ensures), omega (arith, h.2.next-few, s.pre.2.few))
 
 pub put_spec : {M : Type 1} → statement M
 put_spec =
@@ -82,16 +68,16 @@ put_spec =
     (tie.spec
     invariant-loop
     decreases-loop
-    (λ c κs. let s = c.before.before.before in omega (arith, same-directories s.requires.0, valid-header s.requires.0))
-    (λ c κs. c.before.before.before.before.requires.2)
-    (λ c. omega (arith, c.before.before.before.before.before.requires.3))
+    (λ c κs. omega (arith, same-directories c.requires.0, valid-header c.requires.0))
+    (λ c κs. c.requires.2)
+    (λ c. omega (arith, c.requires.3))
     loop-holds
     (λ c. omega (arith, inside c, few c))
     (λ c. omega (arith, inside c, few c))
     keep-image-requires
     (λ c. c.in-Stays.keys1)
     put-image-requires
-    (λ c. let turn = c.before.before.before.before.before.before.before.before in omega (arith, few turn, turn.before.loop-i.invariant.2.stay-few))
+    (λ c. omega (arith, few c.before.before.before.before.before.before.before.before, c.loop-i.invariant.2.stay-few))
     (λ c. omega (arith, few c.before.before.before.before.before.before.before.before))
     (λ c. omega arith)
     loop-again
@@ -100,5 +86,5 @@ put_spec =
     (λ c. omega arith)
     loop-again-2
     short-requires
-    (λ c. let counted = c.before.before in counted.short.ensures.same ∙ counted.before.before.before.loop-i.invariant.2.put.same)
+    (λ c. c.short.ensures.same ∙ c.loop-i.invariant.2.put.same)
     returns)

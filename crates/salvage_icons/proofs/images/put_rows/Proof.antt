@@ -16,56 +16,41 @@ invariant-loop cache «record» report₀ at valid first m next₀ i₀ report n
 abbrev decreases-loop : tie.decreases-loop-i
 decreases-loop cache «record» report₀ at valid first m next₀ i₀ report next i = m - i
 
-abbrev start : tie.At-loop-i invariant-loop decreases-loop → tie.Start invariant-loop decreases-loop
-start l = l.before.before.before.before.before
-
 loop-holds : tie.Need-loop-i-init invariant-loop decreases-loop
 loop-holds c =
-    let s = c.before.before.before.before in
-    (scan _ _ c.before.valid_words-valid.ensures (same-directories s.requires.0) c.list-all.ensures, omega arith, rows_none _ _ _ _)
+    (scan _ _ c.valid_words-valid.ensures (same-directories c.requires.0) c.list-all.ensures, omega arith, rows_none _ _ _ _)
 
 -- the image at hand lies inside, and there are few
 module _ (c : tie.In-loop-i invariant-loop decreases-loop) where
-  abbrev l : tie.At-loop-i invariant-loop decreases-loop
-  l = c.before
+  inside : c.list-all.result.first + 8 * c.loop-i.i + 8 ≤ length c.args.cache.now
+  inside = omega (arith, c.loop-i.invariant.0.first, c.loop-i.invariant.0.count, c.requires.1.listed)
 
-  inside : l.before.list-all.result.first + 8 * l.loop-i.i + 8 ≤ length (start l).args.cache.now
-  inside = omega (arith, l.loop-i.inv.0.first, l.loop-i.inv.0.count, (start l).pre.1.listed)
-
-  few : (l.loop-i.i + 1 ≤ 1024) × (length (start l).args.cache.now ≤ 16777216)
-  few = (omega (arith, l.loop-i.inv.0.count, (start l).pre.1.few), (valid-header (start l).pre.0).not-too-long)
+  few : (c.loop-i.i + 1 ≤ 1024) × (length c.args.cache.now ≤ 16777216)
+  few = (omega (arith, c.loop-i.invariant.0.count, c.requires.1.few), (valid-header c.requires.0).not-too-long)
 
 valid-image-requires : tie.Need-valid_image-requires invariant-loop decreases-loop
 valid-image-requires c κs =
-    let s = start c.before in
-    ((omega (arith, valid-header s.pre.0), c.before.loop-i.invariant.0.words), inside c)
+    ((omega (arith, valid-header c.requires.0), c.loop-i.invariant.0.words), inside c)
 
 loop-again : tie.Need-loop-i-preserved-then-valid_image invariant-loop decreases-loop
 loop-again c =
-    let judged = c.before in
-    let h = judged.before.before.loop-i.invariant in
-    (h.0, omega arith, rows-valid h.2 (rw h.0.first at (sym judged.valid_image.ensures ∙ c.if-valid_image.true)))
+    let h = c.loop-i.invariant in
+    (h.0, omega arith, rows-valid h.2 (rw h.0.first at (sym c.valid_image.ensures ∙ c.if-valid_image.true)))
 
 row-requires : tie.Need-row-next-requires invariant-loop decreases-loop
 row-requires c κs =
-    let turn = c.before.before.before in
-    let l = turn.before in
-    (omega (arith, few turn, l.loop-i.invariant.2.few, (start l).requires.2), omega (arith, inside turn, few turn))
+    (omega (arith, few c.before.before.before, c.loop-i.invariant.2.few, c.requires.2), omega (arith, inside c.before.before.before, few c.before.before.before))
 
 loop-again-2 : tie.Need-loop-i-preserved invariant-loop decreases-loop
 loop-again-2 c =
-    let put = c.before.before in
-    let turn = put.before.before in
-    let judged = turn.before in
-    let h = judged.before.before.loop-i.invariant in
-    (h.0, omega arith, rows-broken h.2 (rw h.0.first at (sym judged.valid_image.ensures ∙ turn.if-valid_image.false)) (rw h.0.first at put.row-next.ensures))
+    let h = c.loop-i.invariant in
+    (h.0, omega arith, rows-broken h.2 (rw h.0.first at (sym c.valid_image.ensures ∙ c.if-valid_image.false)) (rw h.0.first at c.row-next.ensures))
 
 returns : tie.Need-returns invariant-loop decreases-loop
 returns c =
-    let l = c.before in
-    let h = l.loop-i.invariant in
-    let s = start l in
-    let all : l.loop-i.i ≡ images s.args.cache.now s.args.«record» = omega (arith, h.0.count) in
+    let h = c.loop-i.invariant in
+    let s = in
+    let all : c.loop-i.i ≡ images s.args.cache.now s.args.«record» = omega (arith, h.0.count) in
     (rw all at h.2.put, omega (arith, h.2.few, s.pre.1.few))
 
 pub put_rows_spec : {M : Type 1} → statement M
@@ -74,8 +59,8 @@ put_rows_spec =
     (tie.spec
     invariant-loop
     decreases-loop
-    (λ c κs. let s = c.before.before in omega (arith, same-directories s.requires.0, valid-header s.requires.0))
-    (λ c κs. c.before.before.before.requires.1)
+    (λ c κs. omega (arith, same-directories c.requires.0, valid-header c.requires.0))
+    (λ c κs. c.requires.1)
     loop-holds
     (λ c. omega (arith, inside c, few c))
     (λ c. omega (arith, inside c, few c))
@@ -87,5 +72,5 @@ put_rows_spec =
     (λ c. omega (arith, few c.before.before.before.before.before.before))
     (λ c. omega arith)
     loop-again-2
-    (λ c. c.before.loop-i.invariant.2.put.same)
+    (λ c. c.loop-i.invariant.2.put.same)
     returns)

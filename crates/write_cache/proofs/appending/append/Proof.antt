@@ -13,49 +13,39 @@ use Rattle.write_cache.specs.Appending.{leads, bucket_at}
 use Rattle.write_cache.proofs.appending.append.Statement.{statement}
 use Rattle.write_cache.proofs.appending.append.Tie as tie
 
-abbrev start : tie.After-bucket-k → tie.Start
-start c = c.before.before.before.before
-
 -- the bucket is one of those
-below : (c : tie.After-bucket-k) → c.bucket-k.result < (start c).args.buckets
-below c = let a = (start c).args in omega (arith, c.bucket-k.ensures, mod-lt (hash (name_text a.catalogue.now a.icon)) (start c).requires.0.1)
+below : (c : tie.After-bucket-k) → c.bucket-k.result < c.args.buckets
+below c = let a = c.args in omega (arith, c.bucket-k.ensures, mod-lt (hash (name_text a.catalogue.now a.icon)) c.requires.0.1)
 
 -- the field that leads to the record
-abbrev found : tie.After-lead-field → tie.After-bucket-k
-found c = c.before.before
-
 field_is : (c : tie.After-lead-field) →
-    let a = (start (found c)).args in
+    let a = c.args in
     let k = bucket_at a.catalogue.now a.icon a.buckets in c.lead-field.result ≡ leads (get_or a.last.now k 0) k
 field_is c =
-    let a = (start (found c)).args in
-    c.lead-field.ensures ∙ ap (λ k. leads (get_or a.last.now k 0) k) (found c).bucket-k.ensures
+    let a = c.args in
+    c.lead-field.ensures ∙ ap (λ k. leads (get_or a.last.now k 0) k) c.bucket-k.ensures
 
 append-requires : tie.Need-append-requires
 append-requires c κs =
-    let led = c.before in
-    let s = start (found led) in
-    (s.pre.1.0.0, omega (arith, field_is led, s.pre.1.1), s.pre.1.0.1, s.pre.1.0.2, s.pre.1.0.3)
+    (c.requires.1.0.0, omega (arith, field_is c.before, c.requires.1.1), c.requires.1.0.1, c.requires.1.0.2, c.requires.1.0.3)
 
 returns : tie.Need-returns
 returns c =
-    let stored = c.before.before in
-    let led = stored.before.before in
-    let a = (start (found led)).args in
-    (stored.append.ensures ∙ ap (appended a.out.now a.at a.name a.images) (field_is led), ap (λ k. set a.last.now k a.at) (found led).bucket-k.ensures)
+    let a = c.args in
+    (c.append.ensures ∙ ap (appended a.out.now a.at a.name a.images) (field_is c.before.before.before.before), ap (λ k. set a.last.now k a.at) c.bucket-k.ensures)
 
 pub append_spec : {M : Type 1} → statement M
 append_spec =
     tie.close
     (tie.spec
     (λ c κs. search rules)
-    (λ c. omega (arith, below c, (start c).requires.0))
-    (λ c. omega (arith, below c.before, (start c.before).requires.0))
-    (λ c κs. omega (arith, below c.before, (start c.before).requires.0))
+    (λ c. omega (arith, below c, c.requires.0))
+    (λ c. omega (arith, below c.before, c.requires.0))
+    (λ c κs. omega (arith, below c.before, c.requires.0))
     append-requires
     (λ c. search rules)
-    (λ c. let b = c.before.before.before.before.before.before in omega (arith, below b, (start b).requires.0))
-    (λ c. let b = c.before.before.before.before.before.before in omega (arith, below b, (start b).requires.0))
+    (λ c. omega (arith, below c.before.before.before.before.before.before, c.requires.0))
+    (λ c. omega (arith, below c.before.before.before.before.before.before, c.requires.0))
     (λ c. search rules)
     (λ c. search rules)
     returns)

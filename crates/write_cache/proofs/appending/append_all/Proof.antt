@@ -19,55 +19,43 @@ abbrev decreases-loop : tie.decreases-loop-i
 decreases-loop catalogue first icons buckets lists names out₀ last₀ icon₀ at₀ list₀ name₀ i₀ out last icon at list name i = icons - i
 
 loop-holds : tie.Need-loop-i-init invariant-loop decreases-loop
-loop-holds c = let pre = c.before.before.before.requires in (omega arith, refl, reached-first pre.0.1 pre.1.0 pre.1.1)
-
-abbrev start : tie.At-loop-i invariant-loop decreases-loop → tie.Start invariant-loop decreases-loop
-start l = l.before.before.before.before
+loop-holds c = let pre = c.requires in (omega arith, refl, reached-first pre.0.1 pre.1.0 pre.1.1)
 
 -- the icon at hand, and room for what is put for it
 module _ (c : tie.In-loop-i invariant-loop decreases-loop) where
-  abbrev l : tie.At-loop-i invariant-loop decreases-loop
-  l = c.before
+  ends : let s = c.args.catalogue.now in icon_end s c.loop-i.icon ≤ length s
+  ends = icon-ends c.requires.0.1 c.loop-i-test.true c.loop-i.invariant.2.here
 
-  ends : let s = (start l).args.catalogue.now in icon_end s l.loop-i.icon ≤ length s
-  ends = icon-ends (start l).pre.0.1 c.loop-i-test.true l.loop-i.inv.2.here
-
-  rooms : Room (start l).pre.0.1 (start l).pre.1.0 l.loop-i.inv.2 c.loop-i-test.true
-  rooms = room (start l).pre.0.1 (start l).pre.1.0 l.loop-i.inv.2 c.loop-i-test.true
+  rooms : Room c.requires.0.1 c.requires.1.0 c.loop-i.invariant.2 c.loop-i-test.true
+  rooms = room c.requires.0.1 c.requires.1.0 c.loop-i.invariant.2 c.loop-i-test.true
 
 append-requires : tie.Need-append-requires invariant-loop decreases-loop
 append-requires c κs =
-    let turn = c.before.before in
-    let l = turn.before in
-    let judged = (start l).requires.0.1 in
-    let ready = (start l).requires.1.0 in
-    let r = rooms turn in (
-      (there judged turn.loop-i-test.true l.loop-i.invariant.2.here, ready.fits.some, ready.fits.few, omega (arith, l.loop-i.invariant.2.wide, ready.fits.few)),
+    let judged = c.requires.0.1 in
+    let ready = c.requires.1.0 in
+    let r = rooms c.before.before in (
+      (there judged c.loop-i-test.true c.loop-i.invariant.2.here, ready.fits.some, ready.fits.few, omega (arith, c.loop-i.invariant.2.wide, ready.fits.few)),
       (
         (omega (arith, r.record-room, r.out-room), omega (arith, r.record-room, r.short), omega (arith, r.name-room, r.short), omega (arith, r.list-room, r.short)),
-        lead-room judged ready l.loop-i.invariant.2 turn.loop-i-test.true,
+        lead-room judged ready c.loop-i.invariant.2 c.loop-i-test.true,
       ),
     )
 
 loop-again : tie.Need-loop-i-preserved invariant-loop decreases-loop
 loop-again c =
-    let put = c.before.before.before.before.before.before.before in
-    let turn = put.before.before.before in
-    let l = turn.before in
-    let judged = (start l).requires.0.1 in
-    let ready = (start l).requires.1.0 in (
+    let judged = c.requires.0.1 in
+    let ready = c.requires.1.0 in (
       omega arith,
       omega arith,
-      reached-next judged ready l.loop-i.invariant.2 turn.loop-i-test.true put.append.ensures.0 put.append.ensures.1
-          (omega arith) refl (ap (λ n. l.loop-i.list + n) c.before.before.list_size-list.ensures.0) (ap (λ n. l.loop-i.name + (n + 1)) c.before.byte.ensures.0) c.icon_end-icon.ensures,
+      reached-next judged ready c.loop-i.invariant.2 c.loop-i-test.true c.append.ensures.0 c.append.ensures.1
+          (omega arith) refl (ap (λ n. c.loop-i.list + n) c.list_size-list.ensures.0) (ap (λ n. c.loop-i.name + (n + 1)) c.byte.ensures.0) c.icon_end-icon.ensures,
     )
 
 returns : tie.Need-returns invariant-loop decreases-loop
 returns c =
-    let l = c.before in
-    let a = (start l).args in
-    let all : l.loop-i.i ≡ a.icons = omega arith in
-    l.loop-i.invariant.2.built ∙ rw all
+    let a = c.args in
+    let all : c.loop-i.i ≡ a.icons = omega arith in
+    c.loop-i.invariant.2.built ∙ rw all
 
 pub append_all_spec : {M : Type 1} → statement M
 append_all_spec =
@@ -75,8 +63,8 @@ append_all_spec =
     (tie.spec
     invariant-loop
     decreases-loop
-    (λ c. omega (arith, c.before.before.before.requires.1.0.fits.few))
-    (λ c. omega (arith, c.before.before.before.requires.1.0.fits.few))
+    (λ c. omega (arith, c.requires.1.0.fits.few))
+    (λ c. omega (arith, c.requires.1.0.fits.few))
     loop-holds
     append-requires
     (λ c. let r = rooms c.before.before.before.before.before.before.before in omega (arith, r.record-room, r.short))

@@ -13,15 +13,13 @@ use Rattle.write_cache.proofs.appending.bucket.Tie as tie
 
 returns : tie.Need-returns
 returns c =
-    let read = c.before.before.before in
-    let start = read.before.before in
-    let a = start.args in
+    let a = c.args in
     let s = a.catalogue.now in
-    let text = allowed-tells (name_text s a.icon) start.requires.0.named in
-    let size : a.icon + 1 + read.byte.result - (a.icon + 1) ≡ name_length s a.icon = omega (arith, read.byte.ensures.0) in
+    let text = allowed-tells (name_text s a.icon) c.requires.0.named in
+    let size : a.icon + 1 + c.byte.result - (a.icon + 1) ≡ name_length s a.icon = omega (arith, c.byte.ensures.0) in
     let whole = ap (take 255) text.uncut ∙ take_all 255 (name_text s a.icon) text.within in
     ap (λ h. h % a.buckets)
-    (c.before.asked-name.ensures.1 ∙ ap (λ n. hash (take 255 (string (take n (drop (a.icon + 1) s))))) size ∙ ap hash whole)
+    (c.asked-name.ensures.1 ∙ ap (λ n. hash (take 255 (string (take n (drop (a.icon + 1) s))))) size ∙ ap hash whole)
 
 pub bucket_spec : {M : Type 1} → statement M
 bucket_spec =
