@@ -15,26 +15,26 @@ use Rattle.chains.proofs.finish.Statement.{statement}
 use Rattle.chains.proofs.finish.Tie as tie
 
 returns : tie.Need-returns-in_default
-returns c k j = walked-over _ _ _ j.walk j.few c.in-Record.keys2
+returns c k j = walked-over _ _ _ j.walk j.few c.in_default.in_default-own.keys2
 
 -- a record comes next
 goes : (c : tie.In-Record) (k : ℕ)
     → let a = c.args in
-    (j : Judged a.cache.now k a.most a.chain) → Goes a.cache.now k j.stop c.after-1.given.0.0 a.chain
-goes c k j = walked-goes _ _ _ j.walk c.after-1.given.1
+    (j : Judged a.cache.now k a.most a.chain) → Goes a.cache.now k j.stop c.in-Record.record a.chain
+goes c k j = walked-goes _ _ _ j.walk c.in-Record.is
 
 go-round-requires : tie.Need-go_round-requires
 go-round-requires c κs =
     let (k, j) = c.requires.1 in
     let g = goes c k j in
     let stands = stands_on g.keeps g.at g.opened in
-    let steps = turned-inside (j.back _ c.after-1.given.1) stands g.opened j.few in
+    let steps = turned-inside (j.back _ c.in-Record.is) stands g.opened j.few in
     ((omega (arith, g.opened, j.few), c.requires.0.0, c.requires.0.1), steps)
 
 returns-2 : tie.Need-returns
 returns-2 c k j =
     let g = goes c.before k j in
-    let back = j.back _ c.after-1.given.1 in
+    let back = j.back _ c.in-Record.is in
     let stands = stands_on g.keeps g.at g.opened in
     c.go_round.ensures
     ∙ ap (stepped_to _) (turned-last back stands g.opened j.few)

@@ -90,21 +90,21 @@ returns-2 c = record {
   stop = _;
   few = few c.before.before;
   walk = c.pass-chain.ensures;
-  back = λ r q l. absurd (⊎_elim (λ z. omega arith) (λ z. omega arith) (rw q at c.in-Record.keys2));
+  back = λ r q l. absurd (⊎_elim (λ z. omega arith) (λ z. omega arith) (rw q at c.in_default.in_default-own.keys2));
 }
 
 loop-less : tie.Need-loop-stop-smaller invariant-loop decreases-loop
 loop-less c =
-    omega (arith, c.loop-stop.invariant.last, few c.before.before.before.before, c.turning-stop.ensures.onward)
+    omega (arith, c.loop-stop.invariant.last, few c.before.before, c.turning-stop.ensures.onward)
 
 loop-again : tie.Need-loop-stop-preserved invariant-loop decreases-loop
 loop-again c =
-    let g = walked-goes _ _ _ c.pass-chain.ensures c.after-1.given.1 in
+    let g = walked-goes _ _ _ c.pass-chain.ensures c.in-Record.is in
     record {
       stands = stands_on g.keeps g.at g.opened;
       last = g.opened;
-      few = few c.before.before.before.before;
-      back = turning-repeats (first c.before.before.before.before.before.before.before.before.before.before) c.turning-stop.ensures;
+      few = few c.before.before;
+      back = turning-repeats (first c.before.before.before.before.before.before.before.before) c.turning-stop.ensures;
     }
 
 pub go_on_spec : {M : Type 1} → statement M

@@ -13,5 +13,5 @@ opens_spec =
     (λ c. search rules)
     (λ c. search rules)
     (λ c. search rules)
-    (λ c. rw (c.next-1.given.1, ne_eqb _ _ c.if-number-eq7.false))
+    (λ c. rw (c.in-Broken.is, ne_eqb _ _ c.if-number-eq7.false))
     (λ c. search rules))

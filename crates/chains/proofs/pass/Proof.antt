@@ -27,15 +27,15 @@ decreases-loop cache t bucket field₀ opened₀ most field opened = most - open
 returns : tie.Need-returns-in_default invariant-loop decreases-loop
 returns c =
     let inv = c.loop-record.invariant in
-    rw c.opens-opened.ensures (walked-is _ _ _ (stands-stops inv.1 inv.0 _ c.in-Record.keys2 (sym c.follow-after.ensures)))
+    rw c.opens-opened.ensures (walked-is _ _ _ (stands-stops inv.1 inv.0 _ c.in_default.in_default-own.keys2 (sym c.follow-after.ensures)))
 
 -- a turn that leads to a record: where it began, what its field leads to, and that it opens one
 module _ (c : tie.In-Record invariant-loop decreases-loop) where
-  led : let a = c.args in follow Short a.cache.now a.bucket c.loop-record.field ≡ Record c.after-1.given.0.0
-  led = sym c.follow-after.ensures ∙ c.after-1.given.1
+  led : let a = c.args in follow Short a.cache.now a.bucket c.loop-record.field ≡ Record c.in-Record.record
+  led = sym c.follow-after.ensures ∙ c.in-Record.is
 
   one : c.opens-opened.result ≡ 1
-  one = c.opens-opened.ensures ∙ ap opens c.after-1.given.1
+  one = c.opens-opened.ensures ∙ ap opens c.in-Record.is
 
   small : length c.args.cache.now ≤ 16777216
   small = omega (arith, valid-header c.requires.0)
@@ -48,7 +48,7 @@ returns-2 c =
     let full : o ≡ most = omega (arith, one c.before) in
     let opened : o + c.opens-opened.result ≡ most + 1 = omega (arith, one c.before) in
     let keeps = leads_keeps stands (small c.before) (led c.before) in
-    ap (λ x. stepped_to x c.after-1.given.0.0) opened
+    ap (λ x. stepped_to x c.in-Record.record) opened
     ∙ ap (stepped_to (most + 1)) (leads-link stands (small c.before) (led c.before) ∙ ap (link _ _) full)
     ∙ walked-is _ _ _ (keeps-chain Short _ _ (λ m l. keeps m (omega arith)))
 

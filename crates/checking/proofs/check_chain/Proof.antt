@@ -19,7 +19,7 @@ use Rattle.checking.proofs.check_chain.Tie as tie
 check-long-requires : tie.Need-check_long-requires
 check-long-requires c κs =
     let pre = c.requires in
-    let keeps = (walked-goes _ _ _ c.walk-chain.ensures c.enum_told-1.given.1).keeps in
+    let keeps = (walked-goes _ _ _ c.walk-chain.ensures c.in-Record.is).keeps in
     let few = c.at_first-stop.ensures in
     (pre.0, ((pre.1.0, omega (arith, few), omega (arith, few, pre.1.1)), λ m g. keeps m (omega arith)))
 
@@ -32,13 +32,13 @@ on-whole c {a} f e q = ap (λ l. unnamed f l a.opened) (sym q) ∙ ap (λ (a : W
 
 returns-2 : tie.Need-returns-in-Broken
 returns-2 c =
-    let broken = c.after-1.given.1 in
-    c.unfound.ensures ∙ on-whole (whole c.before.before.before.before) _ (walked-broken _ _ _ c.walk-chain.ensures c.at_first-stop.ensures broken) broken
+    let broken = c.in-Broken.is in
+    c.unfound.ensures ∙ on-whole (whole c.before.before) _ (walked-broken _ _ _ c.walk-chain.ensures c.at_first-stop.ensures broken) broken
 
 returns-3 : tie.Need-returns-in-End
 returns-3 c =
-    let ended = c.enum_told-in-End-1.given.1 in
-    c.unfound-in-End.ensures ∙ on-whole (whole c.before.before.before) _ (walked-ended _ _ _ c.walk-chain.ensures c.at_first-stop.ensures ended) ended
+    let ended = c.in-End.is in
+    c.unfound-in-End.ensures ∙ on-whole (whole c.before.before) _ (walked-ended _ _ _ c.walk-chain.ensures c.at_first-stop.ensures ended) ended
 
 pub check_chain_spec : {M : Type 1} → statement M
 check_chain_spec =
@@ -46,11 +46,11 @@ check_chain_spec =
     (tie.spec
     (λ c κs. let pre = c.requires in omega (arith, pre.1.1, valid-header pre.0))
     (λ c κs. let pre = c.requires in (pre.0, (pre.1.0, omega (arith, c.at_first-stop.ensures, pre.1.1))))
-    (λ c. c.in-Record.keys1)
+    (λ c. c.in-Record.in-Record-own.keys1)
     check-long-requires
-    (λ c. c.in-Record.keys2)
+    (λ c. c.in-Broken.in-Broken-own.keys2)
     (λ c κs. search rules)
-    (λ c. c.in-Record.keys3)
+    (λ c. c.in-End.in-End-own.keys3)
     (λ c κs. search rules)
     (λ c. c.check_long.ensures)
     returns-2

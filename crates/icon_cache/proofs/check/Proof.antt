@@ -11,5 +11,5 @@ check_spec =
     (λ c κs. search rules)
     (λ c. search rules)
     (λ c κs. search rules)
-    (λ c. rw c.enum_told-1.given.1 c.check_short.ensures)
-    (λ c. rw c.enum_told-in-Long-1.given.1 c.check_long.ensures))
+    (λ c. rw c.in-Short.is c.check_short.ensures)
+    (λ c. rw c.in-Long.is c.check_long.ensures))

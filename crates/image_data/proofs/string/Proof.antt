@@ -14,13 +14,13 @@ returns : tie.Need-returns-in_default
 unfolding note_fault
 returns c =
     let read = c.extent_at.ensures in
-    let broken = unless-broken _ 24 _ (ap is_whole (sym read) ∙ tag-not-whole _ c.in-Whole.keys2) in
+    let broken = unless-broken _ 24 _ (ap is_whole (sym read) ∙ tag-not-whole _ c.in_default.in_default-own.keys2) in
     c.no_string.ensures ∙ ap (string_judged _ _) (sym broken)
 
 returns-2 : tie.Need-returns
 unfolding note_fault
 returns-2 c =
-    let whole = sym c.extent_at.ensures ∙ c.length-1.given.1 in
+    let whole = sym c.extent_at.ensures ∙ c.in-Whole.is in
     let kept = unless-kept _ 24 _ (whole-is-whole 255 _ _ whole) in
     rw (c.u32_at.ensures, whole_length 255 _ _ whole) (ap (string_judged _ _) (sym kept))
 
@@ -29,7 +29,7 @@ string_spec =
     tie.close
     (tie.spec
     (λ c κs. search rules)
-    (λ c. c.in-Whole.keys1)
+    (λ c. c.in-Whole.in-Whole-own.keys1)
     (λ c κs. search rules)
     returns
     (λ c κs. search rules)

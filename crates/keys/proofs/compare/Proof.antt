@@ -11,18 +11,18 @@ returns c = rw c.if-a-b.true (sym (order-itself _))
 
 returns-2 : tie.Need-returns-in-Ended
 returns-2 c =
-    rw c.enum_told-1.given.1 (c.compare_strings.ensures ∙ rw (c.from.ensures, c.from-in-Ended.ensures))
+    rw c.in-Ended.is (c.compare_strings.ensures ∙ rw (c.from.ensures, c.from-in-Ended.ensures))
 
 returns-3 : tie.Need-returns-in-Counted
 returns-3 c =
-    rw c.enum_told-in-Counted-1.given.1 (c.compare_bytes.ensures ∙ rw (c.name_after.ensures, c.name_after-in-Counted.ensures))
+    rw c.in-Counted.is (c.compare_bytes.ensures ∙ rw (c.name_after.ensures, c.name_after-in-Counted.ensures))
 
 returns-4 : tie.Need-returns-in-Offset
-returns-4 c = rw c.enum_told-in-Offset-1.given.1 c.compare_numbers.ensures
+returns-4 c = rw c.in-Offset.is c.compare_numbers.ensures
 
 returns-5 : tie.Need-returns-in-Images
 returns-5 c =
-    rw c.enum_told-in-Images-1.given.1 (c.compare_bytes-in-Images.ensures ∙ rw (c.list_from.ensures, c.list_from-in-Images.ensures))
+    rw c.in-Images.is (c.compare_bytes-in-Images.ensures ∙ rw (c.list_from.ensures, c.list_from-in-Images.ensures))
 
 pub compare_spec : {M : Type 1} → statement M
 compare_spec =

@@ -23,16 +23,16 @@ middle l = l.loop-low.low + (l.loop-low.high - l.loop-low.low) / 2
 
 loop-again : tie.Need-loop-low-preserved-in-Less invariant-loop decreases-loop
 loop-again c =
-    let inside : middle c.before.before.before.before.before < c.args.n = omega arith in
-    (omega arith, omega arith, λ rising. after-middle _ _ _ _ rising (c.loop-low.invariant.2 rising) (middle c.before.before.before.before.before) inside c.compare-order.ensures c.enum_told-1.given.1)
+    let inside : middle c.before.before.before.before < c.args.n = omega arith in
+    (omega arith, omega arith, λ rising. after-middle _ _ _ _ rising (c.loop-low.invariant.2 rising) (middle c.before.before.before.before) inside c.compare-order.ensures c.in-Less.is)
 
 returns : tie.Need-returns-in-Equal invariant-loop decreases-loop
-returns c = (omega arith, λ rising. order-equal _ _ (sym c.compare-order.ensures ∙ c.enum_told-in-Equal-1.given.1))
+returns c = (omega arith, λ rising. order-equal _ _ (sym c.compare-order.ensures ∙ c.in-Equal.is))
 
 loop-again-2 : tie.Need-loop-low-preserved invariant-loop decreases-loop
 loop-again-2 c =
-    let inside : middle c.before.before.before.before.before < c.args.n = omega arith in
-    (omega arith, omega arith, λ rising. before-middle _ _ _ _ rising (c.loop-low.invariant.2 rising) (middle c.before.before.before.before.before) inside c.compare-order.ensures c.enum_told-in-Greater-1.given.1)
+    let inside : middle c.before.before.before.before < c.args.n = omega arith in
+    (omega arith, omega arith, λ rising. before-middle _ _ _ _ rising (c.loop-low.invariant.2 rising) (middle c.before.before.before.before) inside c.compare-order.ensures c.in-Greater.is)
 
 returns-2 : tie.Need-returns invariant-loop decreases-loop
 returns-2 c =

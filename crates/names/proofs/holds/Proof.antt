@@ -8,12 +8,12 @@ use Rattle.names.proofs.holds.Tie as tie
 
 returns : tie.Need-returns-in-Found
 returns c = λ before known.
-    let told : c.find-spot.result ≡ Found c.enum_told-1.given.0.0 = c.enum_told-1.given.1 in
+    let told : c.find-spot.result ≡ Found c.in-Found.field-0 = c.in-Found.is in
     sym (found-met known (rw told at c.find-spot.ensures.0) (rw told at (c.find-spot.ensures.1 known.rising)))
 
 returns-2 : tie.Need-returns-in-Missing
 returns-2 c = λ before known.
-    let told : c.find-spot.result ≡ Missing c.enum_told-in-Missing-1.given.0.0 = c.enum_told-in-Missing-1.given.1 in
+    let told : c.find-spot.result ≡ Missing c.in-Missing.field-0 = c.in-Missing.is in
     sym (missing-not-met known (rw told at (c.find-spot.ensures.1 known.rising)))
 
 pub holds_spec : {M : Type 1} → statement M

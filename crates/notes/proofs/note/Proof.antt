@@ -12,20 +12,20 @@ returns : tie.Need-returns-in_default
 unfolding note_fault
 returns c =
     let read = c.extent_at.ensures in
-    c.broken.ensures ∙ sym (unless-broken _ _ _ (ap is_whole (sym read) ∙ tag-not-whole _ c.in-Whole.keys2))
+    c.broken.ensures ∙ sym (unless-broken _ _ _ (ap is_whole (sym read) ∙ tag-not-whole _ c.in_default.in_default-own.keys2))
 
 returns-2 : tie.Need-returns
 unfolding note_fault
 returns-2 c =
     let read = c.extent_at.ensures in
-    c.none.ensures ∙ sym (unless-kept _ _ _ (ap is_whole (sym read) ∙ tag-whole _ c.in-Whole.keys1))
+    c.none.ensures ∙ sym (unless-kept _ _ _ (ap is_whole (sym read) ∙ tag-whole _ c.in-Whole.in-Whole-own.keys1))
 
 pub note_spec : {M : Type 1} → statement M
 note_spec =
     tie.close
     (tie.spec
     (λ c κs. search rules)
-    (λ c. c.in-Whole.keys1)
+    (λ c. c.in-Whole.in-Whole-own.keys1)
     (λ c κs. search rules)
     returns
     (λ c κs. search rules)

@@ -30,19 +30,19 @@ hashed : (c : tie.After-read_name-name)
 hashed c valid = c.read_name-name.ensures.1 ∙ ap hash (whole-within 255 c.name_part.ensures valid)
 
 whole : (c : tie.After-struct_known-2-1) → is_whole (name_extent c.args.cache.now c.args.«record») ≡ true
-whole c = ap is_whole (sym (named c.before.before.before.before)) ∙ tag-whole _ c.in-Whole.keys1
+whole c = ap is_whole (sym (named c.before.before.before)) ∙ tag-whole _ c.in-Whole.in-Whole-own.keys1
 
 placed : (c : tie.After-struct_known-2-1)
     → let a = c.args in
     c.read_name-name.result.hash % a.t.buckets ≡ bucket_of a.cache.now (name_of a.cache.now a.«record»)
-placed c = hash-bucket _ _ (hashed c.before.before.before.before (whole c)) (counted c.before.before.before.before.before.before.before.before)
+placed c = hash-bucket _ _ (hashed c.before.before.before (whole c)) (counted c.before.before.before.before.before.before.before)
 
 returns : tie.Need-returns-then-known
 returns c = sym (c.requires.1.1 c.if-known.true)
 
 returns-2 : tie.Need-returns-in_default
 returns-2 c =
-    let broken = ap is_whole (sym (named c.before.before)) ∙ tag-not-whole _ c.in-Whole.keys2 in
+    let broken = ap is_whole (sym (named c.before.before)) ∙ tag-not-whole _ c.in_default.in_default-own.keys2 in
     c.judge.ensures ∙ ap (λ e. string_fault e 8 (c.args.«record» + 4)) (named c.before.before) ∙ sym (name-unread _ _ _ broken)
 
 rem-if2 : tie.Need-nonzero-rem-if2

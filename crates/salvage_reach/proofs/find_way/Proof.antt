@@ -32,25 +32,25 @@ look-requires c κs = (c.requires.0, c.loop-record.invariant.0)
 
 returns : tie.Need-returns-in-Ended invariant-loop decreases-loop
 returns c =
-    rw c.reached_at.ensures (ahead-ended c.loop-record.invariant.1 (rw c.enum_told-1.given.1 at c.look-here.ensures))
+    rw c.reached_at.ensures (ahead-ended c.loop-record.invariant.1 (rw c.in-Ended.is at c.look-here.ensures))
 
 returns-2 : tie.Need-returns-in-Outside invariant-loop decreases-loop
 returns-2 c =
-    rw c.reached_at-in-Outside.ensures (ahead-outside c.loop-record.invariant.1 (rw c.enum_told-in-Outside-1.given.1 at c.look-here.ensures))
+    rw c.reached_at-in-Outside.ensures (ahead-outside c.loop-record.invariant.1 (rw c.in-Outside.is at c.look-here.ensures))
 
 add-reached-at : tie.Need-overflow_add-step invariant-loop decreases-loop
 add-reached-at c = omega (arith, marks-few c.loop-record.invariant.1.marks, valid-header c.requires.0)
 
 returns-3 : tie.Need-returns-in-Misnamed invariant-loop decreases-loop
 returns-3 c =
-    rw c.reached_at-in-Misnamed.ensures (ahead-misnamed c.loop-record.invariant.1 (rw c.enum_told-in-Misnamed-1.given.1 at c.look-here.ensures))
+    rw c.reached_at-in-Misnamed.ensures (ahead-misnamed c.loop-record.invariant.1 (rw c.in-Misnamed.is at c.look-here.ensures))
 
 sub-t14 : tie.Need-overflow_sub-result invariant-loop decreases-loop
 sub-t14 c = c.loop-record.invariant.1.marks.behind-it
 
 returns-4 : tie.Need-returns-then-record-mark invariant-loop decreases-loop
 returns-4 c =
-    ahead-round c.loop-record.invariant.1 (rw c.here-1.given.1 at c.look-here.ensures) c.if-record-mark.true
+    ahead-round c.loop-record.invariant.1 (rw c.in-Passes.is at c.look-here.ensures) c.if-record-mark.true
 
 move-up-requires : tie.Need-move_up-mark-requires invariant-loop decreases-loop
 move-up-requires c κs =
@@ -66,7 +66,7 @@ loop-less c =
 
 loop-again : tie.Need-loop-record-preserved invariant-loop decreases-loop
 loop-again c =
-    let told = rw c.here-1.given.1 at c.look-here.ensures in
+    let told = rw c.in-Passes.is at c.look-here.ensures in
     (omega (arith, told.0, told.1), rw c.move_up-mark.ensures (ahead-again c.loop-record.invariant.1 told c.if-record-mark.false))
 
 pub find_way_spec : {M : Type 1} → statement M
@@ -78,17 +78,17 @@ find_way_spec =
     (λ c κs. search rules)
     loop-holds
     look-requires
-    (λ c. c.in-Ended.keys1)
+    (λ c. c.in-Ended.in-Ended-own.keys1)
     (λ c κs. search rules)
     returns
-    (λ c. c.in-Ended.keys2)
+    (λ c. c.in-Outside.in-Outside-own.keys2)
     (λ c κs. search rules)
     returns-2
-    (λ c. c.in-Ended.keys3)
+    (λ c. c.in-Misnamed.in-Misnamed-own.keys3)
     add-reached-at
     (λ c κs. search rules)
     returns-3
-    (λ c. c.in-Ended.keys4)
+    (λ c. c.in-Passes.in-Passes-own.keys4)
     sub-t14
     returns-4
     move-up-requires

@@ -12,8 +12,8 @@ use Rattle.salvage_reach.proofs.reach.Statement.{statement}
 use Rattle.salvage_reach.proofs.reach.Tie as tie
 
 -- the round that was found
-runs : (c : tie.In-Turns) → RoundOf c.args.cache.now c.args.bucket c.way-in-Turns-1.given.0.0.start c.way-in-Turns-1.given.0.0.steps
-runs c = rw c.way-in-Turns-1.given.1 at c.find_way-way.ensures
+runs : (c : tie.In-Turns) → RoundOf c.args.cache.now c.args.bucket c.in-Turns.round.start c.in-Turns.round.steps
+runs c = rw c.in-Turns.is at c.find_way-way.ensures
 
 u32-at-requires : tie.Need-u32_at-first-requires
 u32-at-requires c κs =
@@ -33,7 +33,7 @@ add-reached-at c =
     omega (arith, c.lead_in-before.ensures.before, (runs c.before.before.before.before).near, valid-header c.requires.0)
 
 returns : tie.Need-returns-in-Stops
-returns c = rw c.way-1.given.1 at c.find_way-way.ensures
+returns c = rw c.in-Stops.is at c.find_way-way.ensures
 
 returns-2 : tie.Need-returns-in-Turns
 returns-2 c =

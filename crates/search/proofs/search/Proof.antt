@@ -45,16 +45,16 @@ stretch-requires c κs =
 
 returns : tie.Need-returns-in_default invariant-loop decreases-loop
 returns c =
-    let stops = searching-stops c.loop-record.invariant c.stretch-sought.ensures c.in-Record.keys2 in
+    let stops = searching-stops c.loop-record.invariant c.stretch-sought.ensures c.in_default.in_default-own.keys2 in
     c.unnamed.ensures ∙ ap (λ f. unnamed f c.stretch-sought.result.next c.stretch-sought.result.opened) (field_is c.before.before.before.before.before) ∙ stops
 
 returns-2 : tie.Need-returns-then-sought invariant-loop decreases-loop
 returns-2 c =
-    sought-found c.stretch-sought.ensures (small c.before.before.before.before.before) c.next-1.given.1 c.if-sought.true
+    sought-found c.stretch-sought.ensures (small c.before.before.before) c.in-Record.is c.if-sought.true
 
 -- a record that does not bear the name, the last that may be looked at
 last : (c : tie.Else-sought invariant-loop decreases-loop) → c.stretch-sought.result.opened ≡ c.loop-record.stop + 1
-last c = sought-last c.stretch-sought.ensures (small c.before.before.before.before.before) c.next-1.given.1 c.if-sought.false
+last c = sought-last c.stretch-sought.ensures (small c.before.before.before) c.in-Record.is c.if-sought.false
 
 -- the chain has come back, or is followed no further
 over : (c : tie.Joined-then-stop-most invariant-loop decreases-loop) →
@@ -63,15 +63,15 @@ over c = ⊎_elim (λ then. inl then.true) (λ else. inr (ltb-true _ _ else.1.tr
 
 go-round-requires : tie.Need-go_round-rest-requires invariant-loop decreases-loop
 go-round-requires c κs =
-    let steps = searching-steps c.loop-record.invariant c.stretch-sought.ensures (small c.before.before.before.before.before.before) c.next-1.given.1 c.if-sought.false (over c) in
-    ((omega (arith, last c.before, c.loop-record.invariant.few), omega (arith, valid-header c.requires.0), small c.before.before.before.before.before.before), steps)
+    let steps = searching-steps c.loop-record.invariant c.stretch-sought.ensures (small c.before.before.before.before) c.in-Record.is c.if-sought.false (over c) in
+    ((omega (arith, last c.before, c.loop-record.invariant.few), omega (arith, valid-header c.requires.0), small c.before.before.before.before), steps)
 
 returns-3 : tie.Need-returns-then-stop-most invariant-loop decreases-loop
 returns-3 c =
-    let lasts = searching-lasts c.loop-record.invariant c.stretch-sought.ensures (small c.before.before.before.before.before.before.before.before) c.next-1.given.1 c.if-sought.false (over c.before.before) in
+    let lasts = searching-lasts c.loop-record.invariant c.stretch-sought.ensures (small c.before.before.before.before.before.before) c.in-Record.is c.if-sought.false (over c.before.before) in
     c.unnamed-then-stop-most.ensures
     ∙ ap (λ (a : Walked). unnamed c.bucket_field-first.result a.after a.opened) c.go_round-rest.ensures
-    ∙ ap (λ f. unfound 12 f (most_records c.args.cache.now + 1)) (field_is c.before.before.before.before.before.before.before.before.before.before)
+    ∙ ap (λ f. unfound 12 f (most_records c.args.cache.now + 1)) (field_is c.before.before.before.before.before.before.before.before)
     ∙ lasts
 
 -- else it goes further, but no further than it may
@@ -81,14 +81,14 @@ fewer c = omega (arith, last c.before.before, c.loop-record.invariant.few, c.if-
 
 -- it stands at the record
 stands : (c : tie.Else-sought invariant-loop decreases-loop) →
-    let a = c.args in Stands a.cache.now a.bucket c.next-1.given.0.0 c.stretch-sought.result.opened
-stands c = sought-stands c.stretch-sought.ensures (small c.before.before.before.before.before) c.next-1.given.1
+    let a = c.args in Stands a.cache.now a.bucket c.in-Record.record c.stretch-sought.result.opened
+stands c = sought-stands c.stretch-sought.ensures (small c.before.before.before) c.in-Record.is
 
 turning-requires : tie.Need-turning-stop-requires invariant-loop decreases-loop
 turning-requires c κs =
-    let way = first c.before.before.before.before.before.before.before.before.before.before in
+    let way = first c.before.before.before.before.before.before.before.before in
     let far = c.horizon-far.ensures in (
-      (far.onward, omega (arith, far.few, valid-header c.requires.0), small c.before.before.before.before.before.before.before.before),
+      (far.onward, omega (arith, far.few, valid-header c.requires.0), small c.before.before.before.before.before.before),
       (stepped-inside way (stands c.before.before.before).keeps, stepped-at way (stands c.before.before.before)),
     )
 
@@ -98,7 +98,7 @@ loop-less c =
 
 loop-again : tie.Need-loop-record-preserved invariant-loop decreases-loop
 loop-again c =
-    searching-on c.loop-record.invariant c.stretch-sought.ensures (small c.before.before.before.before.before.before.before.before.before) c.next-1.given.1 c.if-sought.false (first c.before.before.before.before.before.before.before.before.before.before.before) c.horizon-far.ensures c.turning-stop.ensures
+    searching-on c.loop-record.invariant c.stretch-sought.ensures (small c.before.before.before.before.before.before.before) c.in-Record.is c.if-sought.false (first c.before.before.before.before.before.before.before.before.before) c.horizon-far.ensures c.turning-stop.ensures
 
 pub search_spec : {M : Type 1} → statement M
 search_spec =
@@ -118,7 +118,7 @@ search_spec =
     go-round-requires
     (λ c κs. search rules)
     returns-3
-    (λ c κs. (fewer c, omega (arith, small c.before.before.before.before.before.before.before)))
+    (λ c κs. (fewer c, omega (arith, small c.before.before.before.before.before)))
     turning-requires
     loop-less
     loop-again)

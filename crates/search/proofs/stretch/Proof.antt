@@ -41,24 +41,24 @@ returns c =
       next = c.seek-seen.ensures.next;
       opened = ap (λ n. c.loop-record.opened + n) c.opens-opened.ensures;
       met = λ r q b. absurd (false≢true b);
-      unmet = λ r q b. absurd (⊎_elim (λ z. omega arith) (λ z. omega arith) (rw q at c.in-Record.keys2));
+      unmet = λ r q b. absurd (⊎_elim (λ z. omega arith) (λ z. omega arith) (rw q at c.in_default.in_default-own.keys2));
     }
 
 -- a turn that leads to a record: where it began, what its field leads to, and that it opens one
 module _ (c : tie.In-Record invariant-loop decreases-loop) where
   abbrev met : ℕ
-  met = c.next-1.given.0.0
+  met = c.in-Record.record
 
   led : let a = c.args in follow Short a.cache.now a.bucket c.loop-record.field ≡ Record met
-  led = sym c.seek-seen.ensures.next ∙ c.next-1.given.1
+  led = sym c.seek-seen.ensures.next ∙ c.in-Record.is
 
   opened : c.loop-record.opened + c.opens-opened.result ≡ c.loop-record.opened + 1
-  opened = ap (λ n. c.loop-record.opened + n) (c.opens-opened.ensures ∙ ap opens c.next-1.given.1)
+  opened = ap (λ n. c.loop-record.opened + n) (c.opens-opened.ensures ∙ ap opens c.in-Record.is)
 
   bears : {r : ℕ} → ◌≡◌ {A = _} (Record met) (Record r)
       → let a = c.args in
       c.seek-seen.result.bears ≡ same_bytes (name_of a.cache.now r) a.name.now
-  bears q = c.seek-seen.ensures.bears _ (c.next-1.given.1 ∙ q)
+  bears q = c.seek-seen.ensures.bears _ (c.in-Record.is ∙ q)
 
   small : length c.args.cache.now ≤ 16777216
   small = omega (arith, valid-header c.requires.0)

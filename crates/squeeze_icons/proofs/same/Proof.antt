@@ -7,13 +7,13 @@ use Rattle.squeeze_icons.proofs.same.Statement.{statement}
 use Rattle.squeeze_icons.proofs.same.Tie as tie
 
 returns : tie.Need-returns-in-Less
-returns c = (λ e. absurd (false≢true e), λ e. less_other _ _ (sym c.compare-order.ensures ∙ c.enum_told-1.given.1))
+returns c = (λ e. absurd (false≢true e), λ e. less_other _ _ (sym c.compare-order.ensures ∙ c.in-Less.is))
 
 returns-2 : tie.Need-returns-in-Equal
-returns-2 c = (λ e. order-equal _ _ (sym c.compare-order.ensures ∙ c.enum_told-in-Equal-1.given.1), λ e. absurd (true≢false e))
+returns-2 c = (λ e. order-equal _ _ (sym c.compare-order.ensures ∙ c.in-Equal.is), λ e. absurd (true≢false e))
 
 returns-3 : tie.Need-returns-in-Greater
-returns-3 c = (λ e. absurd (false≢true e), λ e. greater-other _ _ (sym c.compare-order.ensures ∙ c.enum_told-in-Greater-1.given.1))
+returns-3 c = (λ e. absurd (false≢true e), λ e. greater-other _ _ (sym c.compare-order.ensures ∙ c.in-Greater.is))
 
 pub same_spec : {M : Type 1} → statement M
 same_spec =

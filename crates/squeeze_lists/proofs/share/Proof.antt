@@ -16,20 +16,20 @@ inside c = let h = c.requires.1.1 in omega (arith, h.cell_at, cell-inside h.shar
 
 -- the entry that it is, and the one that it would be
 module _ (c : tie.In-Found) where
-  is_found : c.find-spot.result ≡ Found c.spot-1.given.0.0
-  is_found = c.spot-1.given.1
+  is_found : c.find-spot.result ≡ Found c.in-Found.e
+  is_found = c.in-Found.is
 
-  below : c.spot-1.given.0.0 < c.args.shared.entries
+  below : c.in-Found.e < c.args.shared.entries
   below = found_below is_found c.find-spot.ensures.0
 
-  room : c.spot-1.given.0.0 < length c.args.places.now
+  room : c.in-Found.e < length c.args.places.now
   room = omega (arith, below, c.requires.1.1.shares.fits, c.requires.0.2)
 
 module _ (c : tie.In-Missing) where
-  is-missing : c.find-spot.result ≡ Missing c.spot-in-Missing-1.given.0.0
-  is-missing = c.spot-in-Missing-1.given.1
+  is-missing : c.find-spot.result ≡ Missing c.in-Missing.i
+  is-missing = c.in-Missing.is
 
-  within : c.spot-in-Missing-1.given.0.0 ≤ c.args.shared.entries
+  within : c.in-Missing.i ≤ c.args.shared.entries
   within = missing-within is-missing c.find-spot.ensures.0
 
 returns : tie.Need-returns-then-u32_at
@@ -75,7 +75,7 @@ store-requires c κs =
     let unset = sym (c.u32_at.ensures ∙ ap (be 4 c.args.out.now) g.cell_at ∙ cell-is h own.0 own.4) ∙ c.if-u32_at.false in
     let spot = missing-between _ _ _ _ (is-missing c.before.before.before.before.before) (c.find-spot.ensures.1 h.known.known.rising) in (
       (own.0, within c.before.before.before.before.before, omega arith, omega (arith, own.2), own.5, omega (arith, own.2, own.3)),
-      (c.requires.1.0, omega (arith, new-inside h own.0 own.4 unset spot c.if-until-icon.true), new-short h own.0 own.4 unset spot c.if-until-icon.true, omega (arith, inside c.before.before.before.before.before.before.before.before.before.before.before.before.before.before.before)),
+      (c.requires.1.0, omega (arith, new-inside h own.0 own.4 unset spot c.if-until-icon.true), new-short h own.0 own.4 unset spot c.if-until-icon.true, omega (arith, inside c.before.before.before.before.before.before.before.before.before.before.before.before.before)),
     )
 
 pub share_spec : {M : Type 1} → statement M
@@ -90,7 +90,7 @@ share_spec =
     (λ c. search rules)
     (λ c. omega (arith, room c.before, c.requires.0.3))
     (λ c. omega (arith, room c.before.before))
-    (λ c κs. omega (arith, inside c.before.before.before.before.before.before.before.before.before.before.before.before))
+    (λ c κs. omega (arith, inside c.before.before.before.before.before.before.before.before.before.before))
     (λ c κs. search rules)
     (λ c. search rules)
     store-requires

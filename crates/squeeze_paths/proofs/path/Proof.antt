@@ -30,17 +30,17 @@ module _ (c : tie.After-path-path) where
 
 -- where it is found, or would be
 module _ (c : tie.In-Found-2) where
-  is_found : c.find-spot.result ≡ Found c.spot-1.given.0.0
-  is_found = c.spot-1.given.1
+  is_found : c.find-spot.result ≡ Found c.in-Found.e
+  is_found = c.in-Found.is
 
-  below : c.spot-1.given.0.0 < c.args.texts.entries
+  below : c.in-Found.e < c.args.texts.entries
   below = found_below is_found c.find-spot.ensures.0
 
 module _ (c : tie.In-Missing-2) where
-  is-missing : c.find-spot.result ≡ Missing c.spot-in-Missing-1.given.0.0
-  is-missing = c.spot-in-Missing-1.given.1
+  is-missing : c.find-spot.result ≡ Missing c.in-Missing.e
+  is-missing = c.in-Missing.is
 
-  within : c.spot-in-Missing-1.given.0.0 ≤ c.args.texts.entries
+  within : c.in-Missing.e ≤ c.args.texts.entries
   within = missing-within is-missing c.find-spot.ensures.0
 
 -- at the start of what a new path needs
@@ -49,14 +49,14 @@ few c = omega (arith, c.requires.0.1, c.requires.0.2, valid-header c.requires.0.
 
 returns : tie.Need-returns-in-Found
 returns c lent table at h field =
-    pathed-known c.requires.0.0.accepted c.requires.0.1 h (at-is c.before.before.before.before.before.before.before.before.before.before) (below c.before.before.before.before.before.before)
+    pathed-known c.requires.0.0.accepted c.requires.0.1 h (at-is c.before.before.before.before.before.before.before.before) (below c.before.before.before.before.before.before)
     (found-entry _ _ _ _ (is_found c.before.before.before.before.before.before) (c.find-spot.ensures.1 h.known.known.rising)) field refl c.long.ensures
 
 returns-2 : tie.Need-returns-in-Missing
 returns-2 c lent table at h field =
     let acc = c.requires.0.0.accepted in
-    let bytes = path_bytes_lem acc c.requires.0.1 (at-is c.before.before.before.before.before.before.before.before.before.before.before.before.before.before.before.before.before.before.before.before.before) (ap (λ n. n + 1) (size_is c.before.before.before.before.before.before.before.before.before.before.before.before.before.before.before.before.before.before.before.before.before)) in
-    pathed-new acc c.requires.0.1 h (at-is c.before.before.before.before.before.before.before.before.before.before.before.before.before.before.before.before.before.before.before.before.before) (missing-between _ _ _ _ (is-missing c.before.before.before.before.before.before.before.before.before.before.before.before.before.before.before.before.before) (c.find-spot.ensures.1 h.known.known.rising)) (within c.before.before.before.before.before.before.before.before.before.before.before.before.before.before.before.before.before) field
+    let bytes = path_bytes_lem acc c.requires.0.1 (at-is c.before.before.before.before.before.before.before.before.before.before.before.before.before.before.before.before.before.before.before) (ap (λ n. n + 1) (size_is c.before.before.before.before.before.before.before.before.before.before.before.before.before.before.before.before.before.before.before)) in
+    pathed-new acc c.requires.0.1 h (at-is c.before.before.before.before.before.before.before.before.before.before.before.before.before.before.before.before.before.before.before) (missing-between _ _ _ _ (is-missing c.before.before.before.before.before.before.before.before.before.before.before.before.before.before.before.before.before) (c.find-spot.ensures.1 h.known.known.rising)) (within c.before.before.before.before.before.before.before.before.before.before.before.before.before.before.before.before.before) field
     c.add.ensures c.long-in-Missing.ensures (puts-same bytes c.text.ensures)
 
 pub path_spec : {M : Type 1} → statement M
@@ -68,16 +68,16 @@ path_spec =
     (λ c κs. omega (arith, c.requires.0.2, valid-header c.requires.0.0.tables))
     (λ c. search rules)
     (λ c. omega (arith, below c.before.before, c.requires.0.2, valid-header c.requires.0.0.tables))
-    (λ c. omega (arith, below c.before.before.before, few c.before.before.before.before.before.before.before.before.before.before.before.before, c.requires.0.3))
+    (λ c. omega (arith, below c.before.before.before, few c.before.before.before.before.before.before.before.before.before.before, c.requires.0.3))
     (λ c κs. search rules)
     (λ c. search rules)
     (λ c. search rules)
-    (λ c κs. (within c.before.before.before, omega (arith, few c.before.before.before.before.before.before.before.before.before.before.before.before, c.requires.0.3), omega (arith, few c.before.before.before.before.before.before.before.before.before.before.before.before, c.requires.0.4)))
+    (λ c κs. (within c.before.before.before, omega (arith, few c.before.before.before.before.before.before.before.before.before.before, c.requires.0.3), omega (arith, few c.before.before.before.before.before.before.before.before.before.before, c.requires.0.4)))
     (λ c. search rules)
     (λ c κs. search rules)
-    (λ c. omega (arith, few c.before.before.before.before.before.before.before.before.before.before.before.before.before.before.before.before.before.before.before.before.before))
-    (λ c. omega (arith, ends c.before.before.before.before.before.before.before.before.before.before.before.before.before.before.before.before.before, valid-header c.requires.0.0.tables))
-    (λ c κs. (omega (arith, ends c.before.before.before.before.before.before.before.before.before.before.before.before.before.before.before.before.before.before), omega (arith, ends c.before.before.before.before.before.before.before.before.before.before.before.before.before.before.before.before.before.before, c.requires.1, valid-header c.requires.0.0.tables)))
+    (λ c. omega (arith, few c.before.before.before.before.before.before.before.before.before.before.before.before.before.before.before.before.before.before.before))
+    (λ c. omega (arith, ends c.before.before.before.before.before.before.before.before.before.before.before.before.before.before.before, valid-header c.requires.0.0.tables))
+    (λ c κs. (omega (arith, ends c.before.before.before.before.before.before.before.before.before.before.before.before.before.before.before.before), omega (arith, ends c.before.before.before.before.before.before.before.before.before.before.before.before.before.before.before.before, c.requires.1, valid-header c.requires.0.0.tables)))
     (λ c. search rules)
     (λ c. search rules)
     returns

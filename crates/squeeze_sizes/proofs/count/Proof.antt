@@ -15,24 +15,24 @@ use Rattle.squeeze_sizes.proofs.count.Tie as tie
 
 -- the entry that it is
 module _ (c : tie.In-Found) where
-  is_found : c.find-spot.result ≡ Found c.spot-1.given.0.0
-  is_found = c.spot-1.given.1
+  is_found : c.find-spot.result ≡ Found c.in-Found.e
+  is_found = c.in-Found.is
 
-  below : c.spot-1.given.0.0 < c.args.counted.entries
+  below : c.in-Found.e < c.args.counted.entries
   below = found_below is_found c.find-spot.ensures.0
 
-  room : c.spot-1.given.0.0 < length c.args.again.now
+  room : c.in-Found.e < length c.args.again.now
   room = omega (arith, below, c.requires.0.2, c.requires.1.2.fits)
 
-  same : entry (key_at Images c.args.cache.now) c.args.index.now c.spot-1.given.0.0 ≡ key_at Images c.args.cache.now c.args.list
+  same : entry (key_at Images c.args.cache.now) c.args.index.now c.in-Found.e ≡ key_at Images c.args.cache.now c.args.list
   same = found-entry _ _ _ _ is_found (c.find-spot.ensures.1 c.requires.1.2.known.known.rising)
 
 -- the entry that it would be
 module _ (c : tie.In-Missing) where
-  is-missing : c.find-spot.result ≡ Missing c.spot-in-Missing-1.given.0.0
-  is-missing = c.spot-in-Missing-1.given.1
+  is-missing : c.find-spot.result ≡ Missing c.in-Missing.i
+  is-missing = c.in-Missing.is
 
-  within : c.spot-in-Missing-1.given.0.0 ≤ c.args.counted.entries
+  within : c.in-Missing.i ≤ c.args.counted.entries
   within = missing-within is-missing c.find-spot.ensures.0
 
 returns : tie.Need-returns-then-until-icon

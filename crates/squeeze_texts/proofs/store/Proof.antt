@@ -13,10 +13,10 @@ use Rattle.squeeze_texts.proofs.store.Tie as tie
 
 -- it is found as a path
 module _ (c : tie.In-Found) where
-  is_found : c.find-spot.result ≡ Found c.spot-1.given.0.0
-  is_found = c.spot-1.given.1
+  is_found : c.find-spot.result ≡ Found c.in-Found.e
+  is_found = c.in-Found.is
 
-  below : c.spot-1.given.0.0 < c.args.entries
+  below : c.in-Found.e < c.args.entries
   below = found_below is_found c.find-spot.ensures.0
 
 short : (c : tie.After-name_length) → c.name_length.result ≤ 255
@@ -37,7 +37,7 @@ returns-2 c =
     (
       omega (arith, short c),
       λ at i known named.
-          let between = missing-between _ _ _ _ c.enum_told-1.given.1 (c.find-spot.ensures.1 known.known.rising) in
+          let between = missing-between _ _ _ _ c.in-Missing.is (c.find-spot.ensures.1 known.known.rising) in
           stores-new c.requires.0 named (maps-missing known c.args.name between) refl (ap (λ n. c.args.end + (n + 1)) c.name_length.ensures),
     )
 
@@ -49,7 +49,7 @@ store_spec =
     (λ c. search rules)
     (λ c. omega (arith, below c, c.requires.3))
     (λ c. omega (arith, below c.before, c.requires.3))
-    (λ c. omega (arith, c.shared_slice_known-in-Found-1.given c.spot-1.given.0.0))
+    (λ c. omega (arith, c.shared_slice_known-in-Found-1.given c.in-Found.e))
     (λ c. search rules)
     (λ c κs. search rules)
     (λ c. omega (arith, short c))

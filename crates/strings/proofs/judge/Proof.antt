@@ -6,19 +6,19 @@ use Rattle.strings.proofs.judge.Tie as tie
 
 returns : tie.Need-returns-in-Whole
 unfolding string_fault
-returns c = rw c.enum_told-1.given.1
+returns c = rw c.in-Whole.is
 
 returns-2 : tie.Need-returns-in-Empty
 unfolding string_fault
-returns-2 c = rw c.enum_told-in-Empty-1.given.1
+returns-2 c = rw c.in-Empty.is
 
 returns-3 : tie.Need-returns-in-Long
 unfolding string_fault
-returns-3 c = rw c.enum_told-in-Long-1.given.1
+returns-3 c = rw c.in-Long.is
 
 returns-4 : tie.Need-returns-in-Cut
 unfolding string_fault
-returns-4 c = rw c.enum_told-in-Cut-1.given.1
+returns-4 c = rw c.in-Cut.is
 
 pub judge_spec : {M : Type 1} → statement M
 judge_spec =

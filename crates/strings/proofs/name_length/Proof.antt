@@ -11,11 +11,11 @@ extent-is : (c : tie.After-read_name-read) → let a = c.args in c.read_name-rea
 extent-is c = c.read_name-read.ensures.0 ∙ ap (extent 255) c.from-part.ensures
 
 returns : tie.Need-returns-in-Whole
-returns c = whole_length 255 _ _ (sym (extent-is c.before.before.before) ∙ c.extent-1.given.1)
+returns c = whole_length 255 _ _ (sym (extent-is c.before) ∙ c.in-Whole.is)
 
 returns-2 : tie.Need-returns-in_default
 returns-2 c =
-    absurd (false≢true (sym (tag-not-whole _ c.in-Whole.keys2) ∙ ap is_whole (extent-is c.before) ∙ c.requires))
+    absurd (false≢true (sym (tag-not-whole _ c.in_default.in_default-own.keys2) ∙ ap is_whole (extent-is c.before) ∙ c.requires))
 
 pub name_length_spec : {M : Type 1} → statement M
 name_length_spec =

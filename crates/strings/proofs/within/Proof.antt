@@ -29,11 +29,11 @@ returns : tie.Need-returns-then-size-eq0
 returns c limit t size told = let none : length t ≡ 0 = omega (arith, c.if-size-eq0.true) in simp none
 
 returns-2 : tie.Need-returns-in-Cut
-returns-2 c limit t size told = sym (eq-eqb _ _ c.in-Cut.keys1) ∙ within-where-cut limit t (omega arith) told
+returns-2 c limit t size told = sym (eq-eqb _ _ c.in-Cut.in-Cut-own.keys1) ∙ within-where-cut limit t (omega arith) told
 
 returns-3 : tie.Need-returns-in_default
 returns-3 c limit t size told =
-    let other : tag_of the_type c.args.extent ≡ 3 → ⊥ = λ e. ⊎_elim (λ k. omega arith) (⊎_elim (λ k. omega arith) (λ k. omega arith)) c.in-Cut.keys2 in
+    let other : tag_of the_type c.args.extent ≡ 3 → ⊥ = λ e. ⊎_elim (λ k. omega arith) (⊎_elim (λ k. omega arith) (λ k. omega arith)) c.in_default.in_default-own.keys2 in
     sym (ne_eqb _ _ other) ∙ within-where-cut limit t (omega arith) told
 
 pub within_spec : {M : Type 1} → statement M

@@ -25,13 +25,13 @@ finish-requires c κs =
     ((c.requires.1.0.2, omega (arith, valid-header c.requires.0)), (c.args.bucket, c.go_on-judged.ensures))
 
 returns : tie.Need-returns-in-Record
-returns c = c.hand_back.ensures ∙ follows c.before.before.before.before c.after-1.given.1
+returns c = c.hand_back.ensures ∙ follows c.before.before c.in-Record.is
 
 returns-2 : tie.Need-returns-in-Broken
-returns-2 c = c.stay.ensures ∙ follows c.before.before.before.before c.after-in-Broken-1.given.1
+returns-2 c = c.stay.ensures ∙ follows c.before.before c.in-Broken.is
 
 returns-3 : tie.Need-returns-in-End
-returns-3 c = c.stay-in-End.ensures ∙ follows c.before.before.before c.enum_told-1.given.1
+returns-3 c = c.stay-in-End.ensures ∙ follows c.before.before c.in-End.is
 
 pub go_further_spec : {M : Type 1} → statement M
 go_further_spec =
@@ -39,11 +39,11 @@ go_further_spec =
     (tie.spec
     (λ c κs. search rules)
     finish-requires
-    (λ c. c.in-Record.keys1)
+    (λ c. c.in-Record.in-Record-own.keys1)
     (λ c κs. let pre = c.requires in omega (arith, pre.1.0.2, valid-header pre.0))
-    (λ c. c.in-Record.keys2)
+    (λ c. c.in-Broken.in-Broken-own.keys2)
     (λ c κs. search rules)
-    (λ c. c.in-Record.keys3)
+    (λ c. c.in-End.in-End-own.keys3)
     (λ c κs. search rules)
     returns
     returns-2

@@ -64,16 +64,16 @@ ended-before c q = sym (ap (λ (w : Walked). w.after-1) (walked-ended _ _ _ c.wa
 reach-requires : tie.Need-reach-step-requires invariant-loop decreases-loop
 reach-requires c κs =
     let pre = c.requires.0 in
-    let next = sym (ap (λ (c : Walked). c.after-1) c.walk-chain.ensures) ∙ c.after-1.given.1 in
+    let next = sym (ap (λ (c : Walked). c.after-1) c.walk-chain.ensures) ∙ c.in-Record.is in
     (pre, ((omega (arith, same-buckets pre), c.loop-bucket.invariant.1, omega (arith, c.loop-bucket.invariant.2, valid-header pre)), (c.loop-bucket.invariant.3, next)))
 
 returns : tie.Need-returns-then-step-ne28 invariant-loop decreases-loop
 returns c =
-    sym (reach-answers _ _ _ _ c.reach-step.ensures _ c.if-step-ne28.true) ∙ turn c.before.before.before.before.before.before.before
+    sym (reach-answers _ _ _ _ c.reach-step.ensures _ c.if-step-ne28.true) ∙ turn c.before.before.before.before.before
 
 returns-2 : tie.Need-returns-in-Broken invariant-loop decreases-loop
 returns-2 c =
-    c.stay.ensures ∙ sym (onward-breaks _ _ _ _ _ (broken c.before.before.before.before c.after-in-Broken-1.given.1)) ∙ turn c.before.before.before.before.before
+    c.stay.ensures ∙ sym (onward-breaks _ _ _ _ _ (broken c.before.before c.in-Broken.is)) ∙ turn c.before.before.before
 
 -- the chain has ended
 ended : (c : tie.Joined-after invariant-loop decreases-loop)
@@ -106,13 +106,13 @@ onward_spec =
     (λ c κs.
     let pre = c.requires.0 in
     (pre, (omega (arith, same-buckets pre), omega (arith, c.loop-bucket.invariant.1, c.loop-bucket.invariant.2, valid-header pre))))
-    (λ c. c.in-Record.keys1)
+    (λ c. c.in-Record.in-Record-own.keys1)
     reach-requires
     returns
-    (λ c. c.in-Record.keys2)
+    (λ c. c.in-Broken.in-Broken-own.keys2)
     (λ c κs. search rules)
     returns-2
-    (λ c. c.in-Record.keys3)
+    (λ c. c.in-End.in-End-own.keys3)
     (λ c. omega arith)
     (λ c. omega arith)
     loop-again

@@ -35,18 +35,18 @@ keep-image-requires c κs = ((c.requires.0, c.loop-i.invariant.0.words, inside c
 
 put-image-requires : tie.Need-put_image-next-requires invariant-loop decreases-loop
 put-image-requires c κs =
-    (inside c.before.before.before.before.before, omega (arith, few c.before.before.before.before.before, c.loop-i.invariant.2.next-few, c.requires.3))
+    (inside c.before.before.before, omega (arith, few c.before.before.before, c.loop-i.invariant.2.next-few, c.requires.3))
 
 loop-again : tie.Need-loop-i-preserved-in-Stays invariant-loop decreases-loop
 loop-again c =
     let h = c.loop-i.invariant in
-    let stays = rw h.0.first at (rw c.kept-1.given.1 at c.keep_image-kept.ensures) in
+    let stays = rw h.0.first at (rw c.in-Stays.is at c.keep_image-kept.ensures) in
     (h.0, omega arith, put-stays h.2 stays (rw h.0.first at c.put_image-next.ensures))
 
 loop-again-2 : tie.Need-loop-i-preserved invariant-loop decreases-loop
 loop-again-2 c =
     let h = c.loop-i.invariant in
-    let told = rw h.0.first at (rw c.enum_told-1.given.1 at c.keep_image-kept.ensures) in
+    let told = rw h.0.first at (rw c.in-Goes.is at c.keep_image-kept.ensures) in
     (h.0, omega arith, put-goes h.2 told)
 
 -- where the count goes
@@ -75,14 +75,14 @@ put_spec =
     (λ c. omega (arith, inside c, few c))
     (λ c. omega (arith, inside c, few c))
     keep-image-requires
-    (λ c. c.in-Stays.keys1)
+    (λ c. c.in-Stays.in-Stays-own.keys1)
     put-image-requires
-    (λ c. omega (arith, few c.before.before.before.before.before.before.before.before, c.loop-i.invariant.2.stay-few))
-    (λ c. omega (arith, few c.before.before.before.before.before.before.before.before))
+    (λ c. omega (arith, few c.before.before.before.before.before.before, c.loop-i.invariant.2.stay-few))
+    (λ c. omega (arith, few c.before.before.before.before.before.before))
     (λ c. omega arith)
     loop-again
-    (λ c. c.in-Stays.keys2)
-    (λ c. omega (arith, few c.before.before.before))
+    (λ c. c.in-Goes.in-Goes-own.keys2)
+    (λ c. omega (arith, few c.before.before))
     (λ c. omega arith)
     loop-again-2
     short-requires
