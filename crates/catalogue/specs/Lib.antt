@@ -19,4 +19,3 @@ pub mod Listed
 pub mod Call
 pub mod Promise
 pub mod Examples
-pub mod Laws

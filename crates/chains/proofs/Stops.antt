@@ -7,7 +7,7 @@ use native.Mathlib.Omega.{arith}
 use denote.Enum.Declared.{tag_of}
 use Rattle.format.specs.contracts.Next.{the_type}
 use Rattle.format.specs.Chain.{follow, chained, chain, chain_of}
-use Rattle.format.specs.Laws.Follow.{chain-ends, chain-breaks}
+use Rattle.format.proofs.Laws.Follow.{chain-ends, chain-breaks}
 use Rattle.format.specs.declared.Next.{Next}
 use Rattle.format.specs.declared.Next.TheVariants.{End, Broken, Record}
 use Rattle.format.specs.declared.Reading.TheVariants.{Short}

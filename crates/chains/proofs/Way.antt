@@ -12,10 +12,10 @@ use Rattle.format.specs.contracts.Next.{the_type}
 use Rattle.format.specs.Header.{buckets}
 use Rattle.format.specs.Chain.{follow, chained, chain_of}
 use Rattle.format.specs.Words.{link, link_field, KeepsBelow}
-use Rattle.format.specs.Laws.Below.{below_suc}
-use Rattle.format.specs.Laws.Follow.{follow-keeps}
-use Rattle.format.specs.Laws.Links.{Repeat}
-use Rattle.format.specs.Laws.Along.{links, reads-link, chain-along, keeps-chain}
+use Rattle.format.proofs.Laws.Below.{below_suc}
+use Rattle.format.proofs.Laws.Follow.{follow-keeps}
+use Rattle.format.proofs.Laws.Links.{Repeat}
+use Rattle.format.proofs.Laws.Along.{links, reads-link, chain-along, keeps-chain}
 use Rattle.format.specs.declared.Next.{Next}
 use Rattle.format.specs.declared.Next.TheVariants.{Record}
 use Rattle.format.specs.declared.Reading.TheVariants.{Short}

@@ -3,8 +3,8 @@ use Rattle.std.specs.Prelude.{ℕ, suc, ◌+◌, ◌≤◌, ◌≡◌, List}
 use Rattle.std.proofs.Common.{sym, ap, ◌∙◌, arith}
 use Rattle.format.specs.Chain.{Chain, chained, chain_of, opens}
 use Rattle.format.specs.Words.{link, KeepsBelow}
-use Rattle.format.specs.Laws.Along.{links, links-length, holds-chain, breaks-chain, keeps-chain}
-use Rattle.format.specs.Laws.Course.{Course, ends, breaks, goes_on, course}
+use Rattle.format.proofs.Laws.Along.{links, links-length, holds-chain, breaks-chain, keeps-chain}
+use Rattle.format.proofs.Laws.Course.{Course, ends, breaks, goes_on, course}
 use Rattle.format.specs.declared.Next.{Next}
 use Rattle.format.specs.declared.Next.TheVariants.{End, Broken, Record}
 use Rattle.format.specs.declared.Reading.TheVariants.{Short}

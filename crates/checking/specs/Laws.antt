@@ -11,12 +11,12 @@ use Rattle.format.specs.Call.{unnamed, check_buckets}
 use Rattle.format.specs.declared.Found.{Found}
 use Rattle.format.specs.declared.Next.{Next}
 use Rattle.format.specs.declared.Next.TheVariants.{End, Broken, Record}
-use Rattle.format.specs.Laws.Numbers.{never}
-use Rattle.format.specs.Laws.Along.{opened-on, after_is, holds-chain, breaks-chain, keeps-chain}
-use Rattle.format.specs.Laws.Follow.{opens_one, chain-short}
-use Rattle.format.specs.Laws.Buckets.{bucket-ends, bucket-breaks, bucket-goes-on}
-use Rattle.format.specs.Laws.Links.{broken-number}
-use Rattle.format.specs.Laws.Course.{Course, ends, breaks, goes_on, course, ended-length}
+use Rattle.format.proofs.Laws.Numbers.{never}
+use Rattle.format.proofs.Laws.Along.{opened-on, after_is, holds-chain, breaks-chain, keeps-chain}
+use Rattle.format.proofs.Laws.Follow.{opens_one, chain-short}
+use Rattle.format.proofs.Laws.Buckets.{bucket-ends, bucket-breaks, bucket-goes-on}
+use Rattle.format.proofs.Laws.Links.{broken-number}
+use Rattle.format.proofs.Laws.Course.{Course, ends, breaks, goes_on, course, ended-length}
 use Rattle.format.specs.declared.Reading.TheVariants.{Short}
 use Rattle.checking.specs.Buckets.{unnamed_on, Checking}
 

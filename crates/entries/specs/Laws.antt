@@ -11,11 +11,11 @@ use Rattle.format.specs.Number.{be}
 use Rattle.format.specs.Layout.{image_size}
 use Rattle.format.specs.Fault.{fault, no_fault, unless, ◌or_else◌, first_fault}
 use Rattle.format.specs.declared.Fault.{Fault}
-use Rattle.format.specs.Laws.Faults.{kept-takes, broken-takes, first-end, first-stop, first-go-on, or_else-none, unless-none, unless-broken, broken-speaks, kept-passes}
+use Rattle.format.proofs.Laws.Faults.{kept-takes, broken-takes, first-end, first-stop, first-go-on, or_else-none, unless-none, unless-broken, broken-speaks, kept-passes}
 use Rattle.catalogue.specs.Row.{row_end}
 use Rattle.catalogue.specs.Fields.{path_end, image_end, image_count, image_count_at, first_image_at, icon_end}
 use Rattle.catalogue.specs.Judgement.{valid_path_length, valid_path_text, valid_image_field, valid_name_length, valid_name_text, valid_image_count, path_fields_fault, image_field_fault, icon_fields_fault}
-use Rattle.catalogue.specs.Laws.Rows.{end-steps}
+use Rattle.catalogue.proofs.Laws.Rows.{end-steps}
 use Rattle.entries.specs.Judged.{judged, row_judged}
 use Rattle.entries.specs.declared.Judged.{Judged}
 

@@ -2,7 +2,7 @@
 use Rattle.std.specs.Prelude.{ℕ, ◌+◌, ◌≤◌, ◌<◌, ◌≡◌, refl, List, [], ◌++◌, length}
 use Rattle.std.proofs.Common.{sym, ap, ◌∙◌, add-one, arith, length-append}
 use Rattle.format.specs.Bytes.{joined, put}
-use Rattle.format.specs.Laws.Put.{put-length, put-nothing, put_then, put-before}
+use Rattle.format.proofs.Laws.Put.{put-length, put-nothing, put_then, put-before}
 use Rattle.filling.specs.Puts.{Puts}
 
 module _ {lent out : List ℕ} {at : ℕ} {xs : List ℕ} {n behind : ℕ} (size : length xs ≡ n) (next : behind ≡ at + n) where

@@ -2,4 +2,3 @@
 -- numbers of numberings, n and m numberings.
 pub mod Flags
 pub mod Examples
-pub mod Laws

@@ -22,4 +22,3 @@ pub mod Words
 pub mod Demand
 pub mod Farm
 pub mod Examples
-pub mod Laws

@@ -4,4 +4,3 @@ pub mod Call
 pub mod Promise
 pub mod Way
 pub mod Examples
-pub mod Laws

@@ -4,4 +4,3 @@ pub mod Listing
 pub mod Reach
 pub mod Paging
 pub mod Examples
-pub mod Laws

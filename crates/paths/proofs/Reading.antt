@@ -9,8 +9,8 @@ use native.Mathlib.Omega.{arith}
 use lib.ListN.{length, take, drop, get_or, length-drop}
 use lib.Seq.{take-suc, get_or-drop}
 use Rattle.format.specs.Segments.{slash, valid_segment, valid_segments}
-use Rattle.format.specs.Laws.Strings.{left, one_less, Passed, passed-next}
-use Rattle.format.specs.Laws.Segments.{NoSlash, none_free, more-free, last-valid, first-valid}
+use Rattle.format.proofs.Laws.Strings.{left, one_less, Passed, passed-next}
+use Rattle.format.proofs.Laws.Segments.{NoSlash, none_free, more-free, last-valid, first-valid}
 
 -- the bytes from a to i
 abbrev between : List ℕ → ℕ → ℕ → List ℕ

@@ -3,4 +3,3 @@
 pub mod Pick
 pub mod Picking
 pub mod Examples
-pub mod Laws

@@ -1,5 +1,4 @@
 -- Request 13: the plain lookup, what is promised of it, and the laws.
 pub mod Plain
 pub mod Promise
-pub mod Laws
 pub mod Examples

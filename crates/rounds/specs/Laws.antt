@@ -6,9 +6,9 @@ use Rattle.std.proofs.Common.{sym, ap, ◌∙◌, zero-add, add-zero, add-suc, a
 use Rattle.std.proofs.Math.Decide.{dec_lt}
 use Rattle.format.specs.Number.{be}
 use Rattle.format.specs.Words.{link_field}
-use Rattle.format.specs.Laws.Below.{below_suc}
-use Rattle.format.specs.Laws.Along.{reads-link}
-use Rattle.format.specs.Laws.Links.{Repeat}
+use Rattle.format.proofs.Laws.Below.{below_suc}
+use Rattle.format.proofs.Laws.Along.{reads-link}
+use Rattle.format.proofs.Laws.Links.{Repeat}
 use Rattle.rounds.specs.Stepping.{ahead, InsideBelow, Runs, ComesBack}
 use Rattle.rounds.specs.declared.Round.{Round}
 

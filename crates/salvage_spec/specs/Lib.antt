@@ -12,4 +12,3 @@ pub mod Call
 pub mod Promise
 pub mod Pieces
 pub mod Examples
-pub mod Laws

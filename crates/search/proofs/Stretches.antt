@@ -10,8 +10,8 @@ use Rattle.format.specs.Chain.{follow, opens}
 use Rattle.format.specs.Answer.{found}
 use Rattle.format.specs.Call.{search_bucket}
 use Rattle.format.specs.Words.{link, NoneBelow}
-use Rattle.format.specs.Laws.Below.{below_suc}
-use Rattle.format.specs.Laws.Search.{search-finds}
+use Rattle.format.proofs.Laws.Below.{below_suc}
+use Rattle.format.proofs.Laws.Search.{search-finds}
 use Rattle.format.specs.declared.Next.TheVariants.{Record}
 use Rattle.format.specs.declared.Reading.TheVariants.{Short}
 use Rattle.chains.specs.Walk.{Stands}

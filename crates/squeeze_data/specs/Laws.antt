@@ -3,8 +3,8 @@ use Rattle.std.specs.Prelude.{ℕ, ◌+◌, ◌≤◌, ◌<◌, ◌≡◌, List,
 use Rattle.std.proofs.Math.Numerals.{add-one}
 use Rattle.std.proofs.Common.{drop_of_length-le, drop-cons}
 use Rattle.format.specs.Fault.{no_fault}
-use Rattle.format.specs.Laws.Faults.{or_else-first, or_else-next}
-use Rattle.format.specs.Laws.Links.{keeps-listed}
+use Rattle.format.proofs.Laws.Faults.{or_else-first, or_else-next}
+use Rattle.format.proofs.Laws.Links.{keeps-listed}
 use Rattle.squeeze_spec.specs.Call.{record_data_fault, data_fault}
 use Rattle.in_order.specs.Cursor.{Here}
 use Rattle.squeeze_data.specs.Listed.{ListInside}

@@ -8,11 +8,11 @@ use Rattle.format.specs.Number.{be}
 use Rattle.format.specs.Header.{directories, path_field, path_of, path_fault}
 use Rattle.format.specs.Words.{Accepted}
 use Rattle.format.specs.declared.Reading.TheVariants.{Short}
-use Rattle.format.specs.Laws.Bytes.{bytes-length, joined_length}
-use Rattle.format.specs.Laws.Rules.{tables-keep-header, tables-paths}
+use Rattle.format.proofs.Laws.Bytes.{bytes-length, joined_length}
+use Rattle.format.proofs.Laws.Rules.{tables-keep-header, tables-paths}
 use Rattle.catalogue.specs.LaidOut.{text_and_zero}
-use Rattle.catalogue.specs.Laws.Icons.{paths-each}
-use Rattle.catalogue.specs.Laws.Stands.{stands-inside}
+use Rattle.catalogue.proofs.Laws.Icons.{paths-each}
+use Rattle.catalogue.proofs.Laws.Stands.{stands-inside}
 use Rattle.keys.specs.Key.{key_at}
 use Rattle.keys.specs.declared.Kind.TheVariants.{Ended}
 use Rattle.names.specs.Index.{entry, Between}
@@ -20,11 +20,11 @@ use Rattle.names.specs.Repeat.{seen}
 use Rattle.squeeze_spec.specs.Uses.{is_first, place_of}
 use Rattle.squeeze_spec.specs.Packed.{nth_string, string_part}
 use Rattle.squeeze_spec.specs.Squeezed.{contents}
-use Rattle.squeeze_spec.specs.Laws.Uses.{stored-first, stored-later}
-use Rattle.squeeze_spec.specs.Laws.Packed.{path-string}
-use Rattle.squeeze_spec.specs.Laws.Contents.{path-count, contents-paths}
-use Rattle.squeeze_spec.specs.Laws.Elements.{firsts_at}
-use Rattle.squeeze_spec.specs.Laws.There.{path-there}
+use Rattle.squeeze_spec.proofs.Laws.Uses.{stored-first, stored-later}
+use Rattle.squeeze_spec.proofs.Laws.Packed.{path-string}
+use Rattle.squeeze_spec.proofs.Laws.Contents.{path-count, contents-paths}
+use Rattle.squeeze_spec.proofs.Laws.Elements.{firsts_at}
+use Rattle.squeeze_spec.proofs.Laws.There.{path-there}
 use Rattle.filling.specs.Puts.{Puts}
 use Rattle.squeeze_index.specs.Maps.{Adds}
 use Rattle.squeeze_index.specs.Laws.Maps.{maps_none, maps-again, maps-met, maps-value, maps-missing, maps-more}

@@ -6,4 +6,3 @@ pub mod Squeezed
 pub mod Call
 pub mod Promise
 pub mod Examples
-pub mod Laws

@@ -8,7 +8,7 @@ use Rattle.format.specs.Number.{be}
 use Rattle.format.specs.String.{among, string, extent, is_whole}
 use Rattle.format.specs.Words.{Keeps, Accepted}
 use Rattle.format.specs.declared.Reading.TheVariants.{Short}
-use Rattle.format.specs.Laws.Rules.{record-valid}
+use Rattle.format.proofs.Laws.Rules.{record-valid}
 use Rattle.catalogue.specs.Catalogue.{Icon}
 use Rattle.catalogue.specs.LaidOut.{text_and_zero}
 use Rattle.keys.specs.Key.{key_at}
@@ -18,10 +18,10 @@ use Rattle.names.specs.Laws.Repeat.{named-seen, seen-named}
 use Rattle.squeeze_spec.specs.Uses.{first_with, first_use, is_first, place_of, stored_once}
 use Rattle.squeeze_spec.specs.Packed.{nth_string, string_part}
 use Rattle.squeeze_spec.specs.Squeezed.{contents}
-use Rattle.squeeze_spec.specs.Laws.Uses.{first-with, use-is, first-new, stored-first, stored-later}
-use Rattle.squeeze_spec.specs.Laws.Packed.{path-string, name-string}
-use Rattle.squeeze_spec.specs.Laws.Contents.{path-count, contents-apart}
-use Rattle.squeeze_spec.specs.Laws.Passes.{name_new}
+use Rattle.squeeze_spec.proofs.Laws.Uses.{first-with, use-is, first-new, stored-first, stored-later}
+use Rattle.squeeze_spec.proofs.Laws.Packed.{path-string, name-string}
+use Rattle.squeeze_spec.proofs.Laws.Contents.{path-count, contents-apart}
+use Rattle.squeeze_spec.proofs.Laws.Passes.{name_new}
 use Rattle.squeeze_index.specs.Laws.Firsts.{first-own}
 use Rattle.squeeze_icons.specs.Staying.{IconAt}
 use Rattle.squeeze_paths.specs.Pathed.{strings_up_to, path_at}

@@ -5,11 +5,11 @@ use Rattle.std.proofs.Common.{ap, ◌∙◌, arith}
 use Rattle.format.specs.Number.{be}
 use Rattle.format.specs.Bytes.{bytes}
 use Rattle.format.specs.Header.{buckets, bucket_field, directories, path_field, path_part, path_of, path_fault}
-use Rattle.format.specs.Laws.Faults.{or_else-none, kept-takes}
-use Rattle.format.specs.Laws.Extents.{string-whole}
-use Rattle.format.specs.Laws.Strings.{whole-string, string-front}
-use Rattle.format.specs.Laws.Texts.{whole-inside}
-use Rattle.format.specs.Laws.Header.{ValidHeader, header-valid}
+use Rattle.format.proofs.Laws.Faults.{or_else-none, kept-takes}
+use Rattle.format.proofs.Laws.Extents.{string-whole}
+use Rattle.format.proofs.Laws.Strings.{whole-string, string-front}
+use Rattle.format.proofs.Laws.Texts.{whole-inside}
+use Rattle.format.proofs.Laws.Header.{ValidHeader, header-valid}
 use Rattle.tables.specs.Tables.{TablesOf, bucket_field_of, path_judged}
 use Rattle.tables.specs.declared.Tables.{Tables}
 use Rattle.tables.specs.declared.JudgedPath.{JudgedPath}

@@ -2,7 +2,7 @@
 -- its bound.
 use borrow.Author.Rules.{rules}
 use native.Mathlib.Omega.{arith}
-use Rattle.format.specs.Laws.Reads.{be-byte}
+use Rattle.format.proofs.Laws.Reads.{be-byte}
 use Rattle.bigendian.proofs.byte.Statement.{statement}
 use Rattle.bigendian.proofs.byte.Tie as tie
 

@@ -2,7 +2,7 @@
 -- and 1.
 use native.Mathlib.Omega.{arith}
 use borrow.Author.Rules.{rules}
-use Rattle.format.specs.Laws.Put.{put-join}
+use Rattle.format.proofs.Laws.Put.{put-join}
 use Rattle.bigendian.proofs.put_u16.Statement.{statement}
 use Rattle.bigendian.proofs.put_u16.Tie as tie
 

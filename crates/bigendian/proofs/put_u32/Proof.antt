@@ -2,7 +2,7 @@
 -- widths 2 and 2.
 use native.Mathlib.Omega.{arith}
 use borrow.Author.Rules.{rules}
-use Rattle.format.specs.Laws.Put.{put-join}
+use Rattle.format.proofs.Laws.Put.{put-join}
 use Rattle.bigendian.proofs.put_u32.Statement.{statement}
 use Rattle.bigendian.proofs.put_u32.Tie as tie
 

@@ -2,7 +2,7 @@
 -- the widths 2 and 2.
 use borrow.Author.Rules.{rules}
 use native.Mathlib.Omega.{arith}
-use Rattle.format.specs.Laws.Reads.{be-join}
+use Rattle.format.proofs.Laws.Reads.{be-join}
 use Rattle.bigendian.proofs.u32_at.Statement.{statement}
 use Rattle.bigendian.proofs.u32_at.Tie as tie
 

@@ -6,7 +6,7 @@ use Rattle.std.proofs.Common.{arith, lit≤}
 use Rattle.format.specs.Bytes.{bytes, joined}
 use Rattle.format.specs.String.{signed, hash_from, hash_numbers, hash}
 use Rattle.format.specs.Farm.{farm, cow, oat}
-use Rattle.format.specs.Laws.Below.{below_suc}
+use Rattle.format.proofs.Laws.Below.{below_suc}
 use Rattle.catalogue.specs.LaidOut.{Stands, Places, first_in, Lays}
 use Rattle.catalogue.specs.Examples.Catalogues.{hen, farm_catalogue}
 

@@ -4,7 +4,7 @@ use Prim.Native.Nat.{ℕ}
 use mathlib.Core.Path.{ap, ◌∙◌}
 use native.Mathlib.Omega.{arith}
 use borrow.Author.Rules.{rules}
-use Rattle.format.specs.Laws.Along.{keeps-chain}
+use Rattle.format.proofs.Laws.Along.{keeps-chain}
 use Rattle.format.specs.declared.Reading.TheVariants.{Short}
 use Rattle.chains.specs.Walk.{stepped_to, Judged}
 use Rattle.chains.specs.Laws.{walked-is, Goes, walked-goes}

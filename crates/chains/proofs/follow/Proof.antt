@@ -3,7 +3,7 @@
 use mathlib.Core.Path.{sym}
 use mathlib.Core.Bool.{false≢true}
 use borrow.Author.Rules.{rules}
-use Rattle.format.specs.Laws.Follow.{follow-end, follow-outside, follow-broken, follow-record}
+use Rattle.format.proofs.Laws.Follow.{follow-end, follow-outside, follow-broken, follow-record}
 use Rattle.format.specs.declared.Reading.TheVariants.{Short}
 use Rattle.chains.proofs.follow.Statement.{statement}
 use Rattle.chains.proofs.follow.Tie as tie

@@ -8,7 +8,7 @@ use native.Mathlib.Omega.{arith}
 use borrow.Author.Rules.{rules}
 use borrow.Author.Tests.{ltb-true}
 use lib.ListN.{length}
-use Rattle.format.specs.Laws.Links.{Repeat}
+use Rattle.format.proofs.Laws.Links.{Repeat}
 use Rattle.tables.specs.Laws.{valid-header}
 use Rattle.chains.specs.Walk.{Stands}
 use Rattle.chains.specs.Laws.{walked-goes}

@@ -7,8 +7,8 @@ use borrow.Author.Rules.{rules}
 use lib.ListN.{length}
 use Rattle.format.specs.Chain.{follow, opens}
 use Rattle.format.specs.Words.{link}
-use Rattle.format.specs.Laws.Follow.{opens_one}
-use Rattle.format.specs.Laws.Along.{keeps-chain}
+use Rattle.format.proofs.Laws.Follow.{opens_one}
+use Rattle.format.proofs.Laws.Along.{keeps-chain}
 use Rattle.format.specs.declared.Next.TheVariants.{Record}
 use Rattle.format.specs.declared.Reading.TheVariants.{Short}
 use Rattle.tables.specs.Laws.{valid-header}

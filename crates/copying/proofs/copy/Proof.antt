@@ -9,7 +9,7 @@ use borrow.Author.Rules.{rules}
 use lib.ListN.{length, take, drop, get_or, set, length-drop}
 use lib.Seq.{take-suc, get_or-drop, length-take-le, sets-eq}
 use Rattle.format.specs.Bytes.{put}
-use Rattle.format.specs.Laws.Put.{put-length, put-nothing, put-more}
+use Rattle.format.proofs.Laws.Put.{put-length, put-nothing, put-more}
 use Rattle.copying.proofs.copy.Statement.{statement}
 use Rattle.copying.proofs.copy.Tie as tie
 

@@ -7,7 +7,7 @@ use borrow.Author.Rules.{rules}
 use lib.ListN.{length, take, drop, length-drop}
 use lib.Seq.{length-take-le}
 use Rattle.format.specs.Bytes.{bytes}
-use Rattle.format.specs.Laws.Put.{put_then}
+use Rattle.format.proofs.Laws.Put.{put_then}
 use Rattle.copying.proofs.put_string.Statement.{statement}
 use Rattle.copying.proofs.put_string.Tie as tie
 

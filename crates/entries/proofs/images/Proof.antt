@@ -8,7 +8,7 @@ use borrow.Author.Rules.{rules}
 use borrow.Author.Tests.{leb-true, not-true, not-false}
 use lib.ListN.{length}
 use Rattle.format.specs.Fault.{no_fault}
-use Rattle.format.specs.Laws.Faults.{unless-broken}
+use Rattle.format.proofs.Laws.Faults.{unless-broken}
 use Rattle.catalogue.specs.Fields.{image_end}
 use Rattle.catalogue.specs.Judgement.{valid_image_field, image_field_fault}
 use Rattle.entries.specs.Judged.{judged, row_judged}

@@ -5,10 +5,10 @@ use native.Mathlib.Omega.{arith}
 use borrow.Author.Rules.{rules}
 use lib.ListN.{length-replicate}
 use Rattle.format.specs.Words.{Accepted}
-use Rattle.format.specs.Laws.Rules.{tables-keep-header}
+use Rattle.format.proofs.Laws.Rules.{tables-keep-header}
 use Rattle.format.specs.declared.CheckAnswer.{CheckAnswer}
 use Rattle.format.specs.declared.Reading.TheVariants.{Short}
-use Rattle.listing.specs.Laws.Pages.{pages}
+use Rattle.listing.proofs.Laws.Pages.{pages}
 use Rattle.export.specs.Laws.Call.{check-refuses}
 use Rattle.export.proofs.catalogue_of.Statement.{statement}
 use Rattle.export.proofs.catalogue_of.Tie as tie

@@ -6,7 +6,7 @@ use native.Mathlib.Omega.{arith}
 use borrow.Author.Rules.{rules}
 use lib.ListN.{length}
 use Rattle.format.specs.Chain.{all_records}
-use Rattle.format.specs.Laws.Faults.{same_number}
+use Rattle.format.proofs.Laws.Faults.{same_number}
 use Rattle.format.specs.declared.Reading.TheVariants.{Short}
 use Rattle.catalogue.specs.Repeats.{repeat_fault}
 use Rattle.catalogue.specs.Listed.{record_uses}

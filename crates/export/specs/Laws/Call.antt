@@ -11,14 +11,14 @@ use Rattle.format.specs.Chain.{all_records}
 use Rattle.format.specs.Call.{check}
 use Rattle.format.specs.declared.Fault.{Fault}
 use Rattle.format.specs.declared.CheckAnswer.{CheckAnswer}
-use Rattle.format.specs.Laws.Demand.{demand3}
-use Rattle.format.specs.Laws.Faults.{same_number, or_else-first, or_else-next, kept-passes, broken-speaks, unless-kept, unless-broken}
+use Rattle.format.proofs.Laws.Demand.{demand3}
+use Rattle.format.proofs.Laws.Faults.{same_number, or_else-first, or_else-next, kept-passes, broken-speaks, unless-kept, unless-broken}
 use Rattle.format.specs.declared.Reading.TheVariants.{Short}
 use Rattle.tables.specs.declared.Tables.{Tables}
 use Rattle.catalogue.specs.Repeats.{repeat_fault}
 use Rattle.catalogue.specs.Listed.{record_uses}
 use Rattle.catalogue.specs.Call.{write_is, answer_to, left_by, listed_bytes, listing_fault, catalogue_of, catalogue_leaves}
-use Rattle.catalogue.specs.Laws.Call.{answered, leaves-written, refused}
+use Rattle.catalogue.proofs.Laws.Call.{answered, leaves-written, refused}
 use Rattle.catalogue.specs.declared.WriteAnswer.{WriteAnswer}
 use Rattle.tables.specs.Tables.{Sound}
 

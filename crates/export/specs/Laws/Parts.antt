@@ -7,21 +7,21 @@ use Rattle.format.specs.Bytes.{bytes}
 use Rattle.format.specs.String.{is_whole}
 use Rattle.format.specs.Header.{directories, path_of}
 use Rattle.format.specs.Record.{name_of, name_part, name_extent, images_at, images}
-use Rattle.format.specs.Laws.Bytes.{bytes-length}
-use Rattle.format.specs.Laws.Strings.{whole-string, string-front}
-use Rattle.format.specs.Laws.Texts.{whole-inside}
-use Rattle.format.specs.Laws.Rules.{record-valid, tables-paths}
+use Rattle.format.proofs.Laws.Bytes.{bytes-length}
+use Rattle.format.proofs.Laws.Strings.{whole-string, string-front}
+use Rattle.format.proofs.Laws.Texts.{whole-inside}
+use Rattle.format.proofs.Laws.Rules.{record-valid, tables-paths}
 use Rattle.format.specs.declared.Reading.TheVariants.{Short}
 use Rattle.tables.specs.Laws.{PathInside, path_inside}
 use Rattle.tables.specs.declared.Tables.{Tables}
 use Rattle.catalogue.specs.Catalogue.{image_bytes, icon_bytes}
 use Rattle.catalogue.specs.Fields.{AreBytes, part, image_at, image_end, images_from}
 use Rattle.catalogue.specs.Listed.{icon_of}
-use Rattle.catalogue.specs.Laws.Rows.{row-length}
-use Rattle.catalogue.specs.Laws.Spans.{spans-are}
-use Rattle.catalogue.specs.Laws.Judged.{images-span}
-use Rattle.catalogue.specs.Laws.Images.{images-length}
-use Rattle.catalogue.specs.Laws.Icons.{paths-each}
+use Rattle.catalogue.proofs.Laws.Rows.{row-length}
+use Rattle.catalogue.proofs.Laws.Spans.{spans-are}
+use Rattle.catalogue.proofs.Laws.Judged.{images-span}
+use Rattle.catalogue.proofs.Laws.Images.{images-length}
+use Rattle.catalogue.proofs.Laws.Icons.{paths-each}
 use Rattle.tables.specs.Tables.{Sound}
 use Rattle.export.specs.Parts.{Kept, parts_of, path_piece}
 use Rattle.export.specs.declared.parts.IconParts.{IconParts}

@@ -8,17 +8,17 @@ use Rattle.std.proofs.lemmas.List.{get_or_at}
 use Rattle.format.specs.Bytes.{bytes, joined, put}
 use Rattle.format.specs.Header.{directories, path_of}
 use Rattle.format.specs.Chain.{all_records}
-use Rattle.format.specs.Laws.Bytes.{bytes-length, flat_append}
-use Rattle.format.specs.Laws.Put.{put_then}
-use Rattle.format.specs.Laws.Links.{on_chain}
+use Rattle.format.proofs.Laws.Bytes.{bytes-length, flat_append}
+use Rattle.format.proofs.Laws.Put.{put_then}
+use Rattle.format.proofs.Laws.Links.{on_chain}
 use Rattle.format.specs.declared.Reading.TheVariants.{Short}
 use Rattle.tables.specs.declared.Tables.{Tables}
 use Rattle.catalogue.specs.Catalogue.{path_bytes, icon_bytes}
 use Rattle.catalogue.specs.Listed.{firsts, offset_order, icon_of, listed}
 use Rattle.catalogue.specs.Call.{listed_bytes}
-use Rattle.catalogue.specs.Laws.Rising.{firsts-length, map-firsts}
-use Rattle.catalogue.specs.Laws.Elements.{rising-few}
-use Rattle.catalogue.specs.Laws.Reader.{order-each-once}
+use Rattle.catalogue.proofs.Laws.Rising.{firsts-length, map-firsts}
+use Rattle.catalogue.proofs.Laws.Elements.{rising-few}
+use Rattle.catalogue.proofs.Laws.Reader.{order-each-once}
 use Rattle.tables.specs.Tables.{Sound}
 use Rattle.gathering.specs.Order.{Ordered}
 use Rattle.export.specs.Parts.{Kept, path_piece, icon_piece, Indexed}

@@ -2,7 +2,7 @@
 use mathlib.Core.Path.{refl}
 use native.Mathlib.Omega.{arith}
 use borrow.Author.Rules.{rules}
-use Rattle.format.specs.Laws.Bytes.{bytes-length}
+use Rattle.format.proofs.Laws.Bytes.{bytes-length}
 use Rattle.filling.specs.Laws.{puts_whole, puts-short}
 use Rattle.filling.proofs.byte.Statement.{statement}
 use Rattle.filling.proofs.byte.Tie as tie

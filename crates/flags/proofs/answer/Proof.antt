@@ -3,7 +3,7 @@ use Prim.Native.Nat.{◌≤◌}
 use mathlib.Core.Path.{sym, ap, ◌∙◌}
 use borrow.Author.Rules.{rules}
 use Rattle.flags.specs.Flags.{flags_is}
-use Rattle.flags.specs.Laws.{valid-facts, answer-valid, answer-wrong}
+use Rattle.flags.proofs.Laws.{valid-facts, answer-valid, answer-wrong}
 use Rattle.flags.proofs.answer.Statement.{statement}
 use Rattle.flags.proofs.answer.Tie as tie
 

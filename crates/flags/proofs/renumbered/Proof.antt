@@ -3,7 +3,7 @@
 use mathlib.Core.Path.{◌≡◌, sym}
 use native.Mathlib.Omega.{arith}
 use borrow.Author.Rules.{rules}
-use Rattle.flags.specs.Laws.{same-numbering}
+use Rattle.flags.proofs.Laws.{same-numbering}
 use Rattle.flags.proofs.renumbered.Statement.{statement}
 use Rattle.flags.proofs.renumbered.Tie as tie
 

@@ -4,7 +4,7 @@ use mathlib.Core.Path.{refl}
 use native.Mathlib.Omega.{arith}
 use borrow.Fn.Function.{res_v}
 use Rattle.flags.specs.Flags.{freedesktop, gtk, renumbered}
-use Rattle.flags.specs.Laws.{agree}
+use Rattle.flags.proofs.Laws.{agree}
 use Rattle.flags.proofs.to_gtk.Statement.{statement}
 use Rattle.flags.proofs.to_gtk.Tie as tie
 use Rattle.flags.proofs.to_gtk.Reads as reads

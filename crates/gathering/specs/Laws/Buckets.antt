@@ -14,16 +14,16 @@ use Rattle.format.specs.Record.{name_of, bucket_of}
 use Rattle.format.specs.Header.{buckets}
 use Rattle.format.specs.Chain.{Chain, chain_of, most_records, records_below}
 use Rattle.format.specs.Words.{link, Accepted}
-use Rattle.format.specs.Laws.Faults.{same_number, or_else-first, or_else-next}
-use Rattle.format.specs.Laws.Along.{links, holds-chain}
-use Rattle.format.specs.Laws.Apart.{holds-few}
-use Rattle.format.specs.Laws.Links.{keeps-bucket}
+use Rattle.format.proofs.Laws.Faults.{same_number, or_else-first, or_else-next}
+use Rattle.format.proofs.Laws.Along.{links, holds-chain}
+use Rattle.format.proofs.Laws.Apart.{holds-few}
+use Rattle.format.proofs.Laws.Links.{keeps-bucket}
 use Rattle.format.specs.declared.Reading.TheVariants.{Short}
 use Rattle.catalogue.specs.Catalogue.{Each}
 use Rattle.catalogue.specs.Repeats.{Use, use_is, repeat_fault}
 use Rattle.catalogue.specs.Listed.{firsts, record_uses}
-use Rattle.catalogue.specs.Laws.Elements.{each_map, each_first}
-use Rattle.catalogue.specs.Laws.Repeats.{no-repeat, none-repeated}
+use Rattle.catalogue.proofs.Laws.Elements.{each_map, each_first}
+use Rattle.catalogue.proofs.Laws.Repeats.{no-repeat, none-repeated}
 use Rattle.gathering.specs.Chains.{uses_of, chain_repeat}
 use Rattle.gathering.specs.Laws.Repeats.{passed, repeat-append, passed-append, passed-all, repeat-same}
 

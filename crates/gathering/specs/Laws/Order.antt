@@ -10,15 +10,15 @@ use Rattle.format.specs.Choice.{if◌then◌else◌}
 use Rattle.format.specs.String.{same_bytes, among}
 use Rattle.format.specs.Chain.{Chain, chain_of, most_records, records_below, all_records}
 use Rattle.format.specs.Words.{link, Holds, Accepted}
-use Rattle.format.specs.Laws.Along.{links, links-length, holds-chain}
-use Rattle.format.specs.Laws.Apart.{holds-few}
-use Rattle.format.specs.Laws.Links.{on_chain}
+use Rattle.format.proofs.Laws.Along.{links, links-length, holds-chain}
+use Rattle.format.proofs.Laws.Apart.{holds-few}
+use Rattle.format.proofs.Laws.Links.{on_chain}
 use Rattle.format.specs.declared.Reading.TheVariants.{Short}
-use Rattle.listing.specs.Laws.Pages.{pages}
+use Rattle.listing.proofs.Laws.Pages.{pages}
 use Rattle.names.specs.Index.{Answered}
 use Rattle.names.specs.Laws.Index.{nothing-met, offsets-rise}
 use Rattle.catalogue.specs.Listed.{has}
-use Rattle.catalogue.specs.Laws.Rising.{has_some, rising-are}
+use Rattle.catalogue.proofs.Laws.Rising.{has_some, rising-are}
 use Rattle.gathering.specs.Order.{Gathered, Ordered}
 
 pub gathered_none : (index : List ℕ) → Gathered index 0 []

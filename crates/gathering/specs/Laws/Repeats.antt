@@ -13,10 +13,10 @@ use Rattle.format.specs.Header.{bucket_field}
 use Rattle.format.specs.Number.{be}
 use Rattle.format.specs.Chain.{Chain}
 use Rattle.format.specs.Words.{link, Holds}
-use Rattle.format.specs.Laws.Names.{among-either}
-use Rattle.format.specs.Laws.Faults.{same_number, or_else-first, or_else-next, or_else-assoc, kept-passes, broken-speaks}
-use Rattle.format.specs.Laws.Along.{links, holds-chain}
-use Rattle.format.specs.Laws.Apart.{holds-few}
+use Rattle.format.proofs.Laws.Names.{among-either}
+use Rattle.format.proofs.Laws.Faults.{same_number, or_else-first, or_else-next, or_else-assoc, kept-passes, broken-speaks}
+use Rattle.format.proofs.Laws.Along.{links, holds-chain}
+use Rattle.format.proofs.Laws.Apart.{holds-few}
 use Rattle.format.specs.declared.Reading.TheVariants.{Short}
 use Rattle.catalogue.specs.Catalogue.{Each}
 use Rattle.catalogue.specs.Repeats.{Use, use_is, repeat_fault}

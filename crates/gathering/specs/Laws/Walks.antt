@@ -7,8 +7,8 @@ use Rattle.format.specs.Layout.{end_value}
 use Rattle.format.specs.Number.{be}
 use Rattle.format.specs.Header.{buckets, bucket_field}
 use Rattle.format.specs.Words.{link, link_field, Keeps, Holds}
-use Rattle.format.specs.Laws.Below.{below_suc, lt-unless}
-use Rattle.format.specs.Laws.Along.{reads-link}
+use Rattle.format.proofs.Laws.Below.{below_suc, lt-unless}
+use Rattle.format.proofs.Laws.Along.{reads-link}
 use Rattle.format.specs.declared.Reading.TheVariants.{Short}
 use Rattle.tables.specs.Laws.{field-inside}
 use Rattle.tables.specs.declared.Tables.{Tables}

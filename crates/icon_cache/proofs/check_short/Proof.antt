@@ -4,9 +4,9 @@
 use mathlib.Core.Path.{◌≡◌, sym, ◌∙◌}
 use borrow.Author.Rules.{rules}
 use Rattle.format.specs.Header.{header_fault}
-use Rattle.format.specs.Laws.Faults.{same_number}
-use Rattle.format.specs.Laws.Rules.{tables-header, tables-paths}
-use Rattle.format.specs.Laws.Buckets.{check-goes-on, check-refuses}
+use Rattle.format.proofs.Laws.Faults.{same_number}
+use Rattle.format.proofs.Laws.Rules.{tables-header, tables-paths}
+use Rattle.format.proofs.Laws.Buckets.{check-goes-on, check-refuses}
 use Rattle.format.specs.declared.Reading.TheVariants.{Short}
 use Rattle.icon_cache.proofs.Meets.{meets}
 use Rattle.icon_cache.proofs.check_short.Statement.{statement}

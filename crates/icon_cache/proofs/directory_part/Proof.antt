@@ -4,7 +4,7 @@ use mathlib.Core.Path.{◌≡◌, sym, ◌∙◌}
 use native.Mathlib.Omega.{arith}
 use borrow.Author.Rules.{rules}
 use Rattle.format.specs.Header.{header_fault}
-use Rattle.format.specs.Laws.Directory.{directory-header, directory-beyond, directory-path, part-refused, part-judged}
+use Rattle.format.proofs.Laws.Directory.{directory-header, directory-beyond, directory-path, part-refused, part-judged}
 use Rattle.tables.specs.Laws.{same-directories}
 use Rattle.icon_cache.proofs.directory_part.Statement.{statement}
 use Rattle.icon_cache.proofs.directory_part.Tie as tie

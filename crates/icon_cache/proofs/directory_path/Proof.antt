@@ -5,7 +5,7 @@ use native.Mathlib.Nat.{add-sub_cancel_left}
 use native.Mathlib.Omega.{arith}
 use borrow.Author.Rules.{rules}
 use lib.ListN.{length}
-use Rattle.format.specs.Laws.Directory.{part-inside, part-path}
+use Rattle.format.proofs.Laws.Directory.{part-inside, part-path}
 use Rattle.icon_cache.proofs.directory_path.Statement.{statement}
 use Rattle.icon_cache.proofs.directory_path.Tie as tie
 

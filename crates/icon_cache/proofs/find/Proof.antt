@@ -10,9 +10,9 @@ use borrow.Author.Tests.{not-true, not-false}
 use Rattle.format.specs.String.{allowed}
 use Rattle.format.specs.Header.{header_fault}
 use Rattle.format.specs.Record.{bucket_of}
-use Rattle.format.specs.Laws.Faults.{same_number}
-use Rattle.format.specs.Laws.Hashes.{allowed-hash, hash-bucket}
-use Rattle.format.specs.Laws.Lookup.{query-unallowed, query-allowed, find-refuses, find-searches}
+use Rattle.format.proofs.Laws.Faults.{same_number}
+use Rattle.format.proofs.Laws.Hashes.{allowed-hash, hash-bucket}
+use Rattle.format.proofs.Laws.Lookup.{query-unallowed, query-allowed, find-refuses, find-searches}
 use Rattle.tables.specs.Laws.{valid-header, same-buckets}
 use Rattle.icon_cache.proofs.find.Statement.{statement}
 use Rattle.icon_cache.proofs.find.Tie as tie

@@ -7,11 +7,11 @@ use borrow.Author.Rules.{rules}
 use lib.ListN.{length}
 use Rattle.format.specs.Call.{lookup, answer_words, lookup_words}
 use Rattle.format.specs.Demand.{LookupKept, OpensWithin}
-use Rattle.format.specs.Laws.Links.{keeps-listed}
-use Rattle.format.specs.Laws.Lookup.{lookup-found, lookup-unfound, answer_keeps}
-use Rattle.format.specs.Laws.LookupAnswers.{found-keeps}
-use Rattle.format.specs.Laws.Demand.{lookup-demand}
-use Rattle.format.specs.Laws.Longest.{longest-demand}
+use Rattle.format.proofs.Laws.Links.{keeps-listed}
+use Rattle.format.proofs.Laws.Lookup.{lookup-found, lookup-unfound, answer_keeps}
+use Rattle.format.proofs.Laws.LookupAnswers.{found-keeps}
+use Rattle.format.proofs.Laws.Demand.{lookup-demand}
+use Rattle.format.proofs.Laws.Longest.{longest-demand}
 use Rattle.format.specs.declared.LookupAnswer.{LookupAnswer}
 use Rattle.format.specs.declared.Reading.TheVariants.{Short}
 use Rattle.icon_cache.proofs.lookup.Statement.{statement}

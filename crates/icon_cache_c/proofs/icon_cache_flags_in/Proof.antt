@@ -1,7 +1,7 @@
 -- `icon_cache_c::icon_cache_flags_in` meets its contract: it hands on the answer of `flags_in` but
 -- for the place, which is always 0.
 use borrow.Author.Rules.{rules}
-use Rattle.flags.specs.Laws.{no_place}
+use Rattle.flags.proofs.Laws.{no_place}
 use Rattle.icon_cache_c.proofs.icon_cache_flags_in.Statement.{statement}
 use Rattle.icon_cache_c.proofs.icon_cache_flags_in.Tie as tie
 

@@ -1,7 +1,7 @@
 -- `icon_cache_c::icon_cache_flags_out` meets its contract: it hands on the answer of `flags_out`
 -- but for the place, which is always 0.
 use borrow.Author.Rules.{rules}
-use Rattle.flags.specs.Laws.{no_place}
+use Rattle.flags.proofs.Laws.{no_place}
 use Rattle.icon_cache_c.proofs.icon_cache_flags_out.Statement.{statement}
 use Rattle.icon_cache_c.proofs.icon_cache_flags_out.Tie as tie
 

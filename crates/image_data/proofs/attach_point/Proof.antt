@@ -6,16 +6,16 @@ use mathlib.Core.List.{List}
 use native.Mathlib.Omega.{arith}
 use borrow.Author.Rules.{rules}
 use lib.ListN.{length}
-use Rattle.format.specs.Laws.Faults.{or_else-none}
+use Rattle.format.proofs.Laws.Faults.{or_else-none}
 use Rattle.format.specs.ImageData.{point_size, entry_at}
 use Rattle.image_data.specs.declared.PointAnswer.{PointAnswer}
 use Rattle.image_data.specs.Call.{points_at, point_fault, attach_point}
 use Rattle.image_data.specs.Way.{LeadsTo}
 use Rattle.image_data.specs.Promise.{AfterLong}
-use Rattle.image_data.specs.Laws.Way.{way-kept}
-use Rattle.image_data.specs.Laws.Judged.{entry-inside}
-use Rattle.image_data.specs.Laws.Called.{point-refused, point-found}
-use Rattle.image_data.specs.Laws.Promise.{promise}
+use Rattle.image_data.proofs.Laws.Way.{way-kept}
+use Rattle.image_data.proofs.Laws.Judged.{entry-inside}
+use Rattle.image_data.proofs.Laws.Called.{point-refused, point-found}
+use Rattle.image_data.proofs.Laws.Promise.{promise}
 use Rattle.image_data.proofs.attach_point.Statement.{statement}
 use Rattle.image_data.proofs.attach_point.Tie as tie
 

@@ -5,10 +5,10 @@ use mathlib.Core.Path.{◌∙◌}
 use native.Mathlib.Omega.{arith}
 use borrow.Author.Rules.{rules}
 use lib.ListN.{length}
-use Rattle.format.specs.Laws.Faults.{or_else-none}
-use Rattle.image_data.specs.Laws.Way.{way-kept}
-use Rattle.image_data.specs.Laws.Judged.{entry-inside}
-use Rattle.image_data.specs.Laws.Called.{display-refused, display-judged}
+use Rattle.format.proofs.Laws.Faults.{or_else-none}
+use Rattle.image_data.proofs.Laws.Way.{way-kept}
+use Rattle.image_data.proofs.Laws.Judged.{entry-inside}
+use Rattle.image_data.proofs.Laws.Called.{display-refused, display-judged}
 use Rattle.image_data.proofs.display.Statement.{statement}
 use Rattle.image_data.proofs.display.Tie as tie
 

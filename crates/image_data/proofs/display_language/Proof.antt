@@ -3,8 +3,8 @@ use mathlib.Core.Path.{ap, ◌∙◌}
 use native.Mathlib.Nat.{add-zero}
 use borrow.Author.Rules.{rules}
 use Rattle.image_data.specs.Call.{display}
-use Rattle.image_data.specs.Laws.Inside.{string-inside}
-use Rattle.image_data.specs.Laws.Promise.{promise}
+use Rattle.image_data.proofs.Laws.Inside.{string-inside}
+use Rattle.image_data.proofs.Laws.Promise.{promise}
 use Rattle.image_data.proofs.display_language.Statement.{statement}
 use Rattle.image_data.proofs.display_language.Tie as tie
 

@@ -1,7 +1,7 @@
 -- `image_data::display_name` meets its contract, and keeps the promise.
 use borrow.Author.Rules.{rules}
-use Rattle.image_data.specs.Laws.Inside.{string-inside}
-use Rattle.image_data.specs.Laws.Promise.{promise}
+use Rattle.image_data.proofs.Laws.Inside.{string-inside}
+use Rattle.image_data.proofs.Laws.Promise.{promise}
 use Rattle.image_data.proofs.display_name.Statement.{statement}
 use Rattle.image_data.proofs.display_name.Tie as tie
 

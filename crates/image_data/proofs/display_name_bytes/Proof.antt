@@ -1,7 +1,7 @@
 -- `image_data::display_name_bytes` meets its contract: the part is the string (`string_bytes_lem`).
 use mathlib.Core.Path.{◌∙◌}
 use borrow.Author.Rules.{rules}
-use Rattle.image_data.specs.Laws.Inside.{string_bytes_lem}
+use Rattle.image_data.proofs.Laws.Inside.{string_bytes_lem}
 use Rattle.image_data.proofs.display_name_bytes.Statement.{statement}
 use Rattle.image_data.proofs.display_name_bytes.Tie as tie
 

@@ -3,8 +3,8 @@ use Prim.Native.Nat.{◌+◌, ◌≤◌}
 use native.Mathlib.Omega.{arith}
 use borrow.Author.Rules.{rules}
 use lib.ListN.{length}
-use Rattle.image_data.specs.Laws.Way.{way_on, way-kept, way-ends}
-use Rattle.image_data.specs.Laws.Judged.{meta-found}
+use Rattle.image_data.proofs.Laws.Way.{way_on, way-kept, way-ends}
+use Rattle.image_data.proofs.Laws.Judged.{meta-found}
 use Rattle.image_data.proofs.entry_part.Statement.{statement}
 use Rattle.image_data.proofs.entry_part.Tie as tie
 

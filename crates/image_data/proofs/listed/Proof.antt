@@ -11,11 +11,11 @@ use Rattle.format.specs.Number.{be}
 use Rattle.format.specs.Fault.{no_fault}
 use Rattle.format.specs.Notes.{valid_entries}
 use Rattle.format.specs.ImageData.{entry_at}
-use Rattle.format.specs.Laws.Faults.{same_number}
-use Rattle.format.specs.Laws.Reads.{list-ends}
+use Rattle.format.proofs.Laws.Faults.{same_number}
+use Rattle.format.proofs.Laws.Reads.{list-ends}
 use Rattle.image_data.specs.Call.{entry_fault}
-use Rattle.image_data.specs.Laws.Way.{same_way}
-use Rattle.image_data.specs.Laws.Judged.{entry_absent, entry-broken, entry-beyond, entry_found, entry-inside}
+use Rattle.image_data.proofs.Laws.Way.{same_way}
+use Rattle.image_data.proofs.Laws.Judged.{entry_absent, entry-broken, entry-beyond, entry_found, entry-inside}
 use Rattle.image_data.proofs.listed.Statement.{statement}
 use Rattle.image_data.proofs.listed.Tie as tie
 

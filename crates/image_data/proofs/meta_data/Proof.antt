@@ -7,8 +7,8 @@ use borrow.Author.Rules.{rules}
 use lib.ListN.{length}
 use Rattle.format.specs.Fault.{no_fault}
 use Rattle.image_data.specs.Call.{bytes_fault}
-use Rattle.image_data.specs.Laws.Way.{same_way, way_on, way-kept, way-ends}
-use Rattle.image_data.specs.Laws.Judged.{too_short, too_large, bytes-kept, part-inside, meta-bytes, meta-next}
+use Rattle.image_data.proofs.Laws.Way.{same_way, way_on, way-kept, way-ends}
+use Rattle.image_data.proofs.Laws.Judged.{too_short, too_large, bytes-kept, part-inside, meta-bytes, meta-next}
 use Rattle.image_data.proofs.meta_data.Statement.{statement}
 use Rattle.image_data.proofs.meta_data.Tie as tie
 

@@ -3,8 +3,8 @@
 use mathlib.Core.Path.{refl}
 use native.Mathlib.Omega.{arith}
 use borrow.Author.Rules.{rules}
-use Rattle.image_data.specs.Laws.Way.{same_way}
-use Rattle.image_data.specs.Laws.Judged.{part-absent, part-outside, part-found}
+use Rattle.image_data.proofs.Laws.Way.{same_way}
+use Rattle.image_data.proofs.Laws.Judged.{part-absent, part-outside, part-found}
 use Rattle.image_data.proofs.part.Statement.{statement}
 use Rattle.image_data.proofs.part.Tie as tie
 

@@ -6,14 +6,14 @@ use mathlib.Core.List.{List}
 use native.Mathlib.Omega.{arith}
 use borrow.Author.Rules.{rules}
 use lib.ListN.{length}
-use Rattle.format.specs.Laws.Faults.{or_else-none}
+use Rattle.format.proofs.Laws.Faults.{or_else-none}
 use Rattle.image_data.specs.declared.RectangleAnswer.{RectangleAnswer}
 use Rattle.image_data.specs.Call.{rectangle_call_fault, rectangle}
 use Rattle.image_data.specs.Promise.{AfterLong}
-use Rattle.image_data.specs.Laws.Way.{way-kept}
-use Rattle.image_data.specs.Laws.Judged.{part-inside}
-use Rattle.image_data.specs.Laws.Called.{rectangle-refused, rectangle-found}
-use Rattle.image_data.specs.Laws.Promise.{promise}
+use Rattle.image_data.proofs.Laws.Way.{way-kept}
+use Rattle.image_data.proofs.Laws.Judged.{part-inside}
+use Rattle.image_data.proofs.Laws.Called.{rectangle-refused, rectangle-found}
+use Rattle.image_data.proofs.Laws.Promise.{promise}
 use Rattle.image_data.proofs.rectangle.Statement.{statement}
 use Rattle.image_data.proofs.rectangle.Tie as tie
 

@@ -4,8 +4,8 @@ use native.Mathlib.Omega.{arith}
 use borrow.Author.Rules.{rules}
 use lib.ListN.{length}
 use Rattle.image_data.specs.Call.{rectangle_call_fault}
-use Rattle.image_data.specs.Laws.Way.{way_on, way-kept, way-ends}
-use Rattle.image_data.specs.Laws.Judged.{meta-found}
+use Rattle.image_data.proofs.Laws.Way.{way_on, way-kept, way-ends}
+use Rattle.image_data.proofs.Laws.Judged.{meta-found}
 use Rattle.image_data.proofs.rectangle_part.Statement.{statement}
 use Rattle.image_data.proofs.rectangle_part.Tie as tie
 

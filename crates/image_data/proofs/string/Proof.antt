@@ -3,8 +3,8 @@ use mathlib.Core.Path.{ap, sym, ◌∙◌}
 use borrow.Author.Rules.{rules}
 use Rattle.format.specs.String.{is_whole}
 use Rattle.format.specs.Notes.{note_fault}
-use Rattle.format.specs.Laws.Faults.{unless-kept, unless-broken}
-use Rattle.format.specs.Laws.Strings.{whole_length, whole-is-whole}
+use Rattle.format.proofs.Laws.Faults.{unless-kept, unless-broken}
+use Rattle.format.proofs.Laws.Strings.{whole_length, whole-is-whole}
 use Rattle.strings.proofs.Tags.{tag-not-whole}
 use Rattle.image_data.specs.Call.{string_judged}
 use Rattle.image_data.proofs.string.Statement.{statement}

@@ -5,7 +5,7 @@ use native.Mathlib.Omega.{arith}
 use borrow.Author.Rules.{rules}
 use lib.ListN.{length}
 use Rattle.format.specs.Fault.{first_fault}
-use Rattle.format.specs.Laws.Faults.{same_number}
+use Rattle.format.proofs.Laws.Faults.{same_number}
 use Rattle.catalogue.specs.Fields.{path_end, path_count, icon_count_at}
 use Rattle.catalogue.specs.Judgement.{path_fields_fault}
 use Rattle.entries.specs.Judged.{row_judged}

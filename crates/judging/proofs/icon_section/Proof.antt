@@ -7,7 +7,7 @@ use borrow.Author.Rules.{rules}
 use lib.ListN.{length}
 use Rattle.format.specs.Number.{be}
 use Rattle.format.specs.Fault.{fault, first_fault}
-use Rattle.format.specs.Laws.Faults.{same_number}
+use Rattle.format.proofs.Laws.Faults.{same_number}
 use Rattle.catalogue.specs.Row.{row_end}
 use Rattle.catalogue.specs.Fields.{icon_end}
 use Rattle.catalogue.specs.Judgement.{icon_fields_fault}

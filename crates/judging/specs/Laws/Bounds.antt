@@ -11,11 +11,11 @@ use Rattle.std.proofs.Math.ListN.{length}
 use Rattle.format.specs.Fault.{first_fault}
 use Rattle.format.specs.Part.{inside}
 use Rattle.format.specs.declared.Fault.{Fault}
-use Rattle.format.specs.Laws.Faults.{or_else-next, or_else-none, unless-none}
+use Rattle.format.proofs.Laws.Faults.{or_else-next, or_else-none, unless-none}
 use Rattle.catalogue.specs.Row.{row_end}
 use Rattle.catalogue.specs.Fields.{AreBytes, path_length, path_end, name_length, image_count_at, image_count, icon_end, path_count, icon_count_at, icon_count, first_icon_at, catalogue_end}
 use Rattle.catalogue.specs.Judgement.{valid_path_length, valid_name_length, valid_image_count, path_fields_fault, icon_fields_fault, fields_fault}
-use Rattle.catalogue.specs.Laws.Spans.{number_fits}
+use Rattle.catalogue.proofs.Laws.Spans.{number_fits}
 use Rattle.judging.specs.Judging.{Listed, Parted}
 use Rattle.entries.specs.Laws.{icon-inside, row_inside}
 use Rattle.judging.specs.Laws.Sections.{fields-kept}

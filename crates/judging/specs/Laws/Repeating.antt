@@ -8,7 +8,7 @@ use Rattle.std.proofs.Math.Nat.{sub-zero}
 use native.Mathlib.Omega.{arith}
 use Rattle.format.specs.Fault.{fault, no_fault}
 use Rattle.format.specs.String.{among}
-use Rattle.format.specs.Laws.Faults.{broken-speaks, kept-passes}
+use Rattle.format.proofs.Laws.Faults.{broken-speaks, kept-passes}
 use Rattle.keys.specs.Key.{key_at}
 use Rattle.names.specs.Index.{Represents, Answered}
 use Rattle.names.specs.Laws.Index.{nothing-met}
@@ -16,7 +16,7 @@ use Rattle.keys.specs.declared.Kind.TheVariants.{Counted}
 use Rattle.catalogue.specs.Row.{row_end, row}
 use Rattle.catalogue.specs.Fields.{name_text, icon_end}
 use Rattle.catalogue.specs.Repeats.{repeat_fault}
-use Rattle.catalogue.specs.Laws.Rows.{end-next}
+use Rattle.catalogue.proofs.Laws.Rows.{end-next}
 use Rattle.judging.specs.Judging.{repeat_from, Listed}
 
 -- i of the m icons from `first` on are passed, up to p, and the index holds their names; what is

@@ -7,7 +7,7 @@ use Rattle.std.proofs.lemmas.Bool.{lt-leb}
 use Rattle.format.specs.Number.{be}
 use Rattle.format.specs.Fault.{fault, no_fault, first_fault}
 use Rattle.format.specs.declared.Fault.{Fault}
-use Rattle.format.specs.Laws.Faults.{same_number, or_else-first, or_else-next, unless-broken, broken-speaks, kept-passes}
+use Rattle.format.proofs.Laws.Faults.{same_number, or_else-first, or_else-next, unless-broken, broken-speaks, kept-passes}
 use Rattle.catalogue.specs.Row.{row_end}
 use Rattle.catalogue.specs.Fields.{path_end, icon_end, path_count, icon_count_at}
 use Rattle.catalogue.specs.Judgement.{path_fields_fault, icon_fields_fault, fields_fault}

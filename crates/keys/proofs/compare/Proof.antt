@@ -2,7 +2,7 @@
 -- comparison.
 use mathlib.Core.Path.{sym, ◌∙◌}
 use borrow.Author.Rules.{rules}
-use Rattle.keys.specs.Laws.{order-itself}
+use Rattle.keys.proofs.Laws.{order-itself}
 use Rattle.keys.proofs.compare.Statement.{statement}
 use Rattle.keys.proofs.compare.Tie as tie
 

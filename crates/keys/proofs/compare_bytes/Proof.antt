@@ -9,7 +9,7 @@ use lib.ListN.{length, drop, get_or, drop_of_length-le}
 use lib.Seq.{drop-cons}
 use Rattle.keys.specs.declared.Ordering.TheVariants.{Less, Equal, Greater}
 use Rattle.keys.specs.Order.{order}
-use Rattle.keys.specs.Laws.{both_end, end-less, end-greater, first-less, first-greater, first-equal}
+use Rattle.keys.proofs.Laws.{both_end, end-less, end-greater, first-less, first-greater, first-equal}
 use Rattle.keys.proofs.compare_bytes.Statement.{statement}
 use Rattle.keys.proofs.compare_bytes.Tie as tie
 

@@ -1,7 +1,7 @@
 -- `keys::compare_numbers` meets its contract: the first numbers are the only ones.
 use mathlib.Core.Path.{sym, ◌∙◌}
 use native.Mathlib.Omega.{arith}
-use Rattle.keys.specs.Laws.{both_end, first-less, first-greater, first-equal}
+use Rattle.keys.proofs.Laws.{both_end, first-less, first-greater, first-equal}
 use Rattle.keys.proofs.compare_numbers.Statement.{statement}
 use Rattle.keys.proofs.compare_numbers.Tie as tie
 

@@ -8,10 +8,10 @@ use native.Mathlib.Omega.{arith}
 use borrow.Author.Rules.{rules}
 use lib.ListN.{length, drop, get_or, get_or-eq_default}
 use Rattle.format.specs.String.{string}
-use Rattle.format.specs.Laws.Strings.{string-stops, string-goes-on}
+use Rattle.format.proofs.Laws.Strings.{string-stops, string-goes-on}
 use Rattle.keys.specs.declared.Ordering.TheVariants.{Less, Equal, Greater}
 use Rattle.keys.specs.Order.{order}
-use Rattle.keys.specs.Laws.{both_end, end-less, end-greater, first-less, first-greater, first-equal}
+use Rattle.keys.proofs.Laws.{both_end, end-less, end-greater, first-less, first-greater, first-equal}
 use Rattle.keys.proofs.compare_strings.Statement.{statement}
 use Rattle.keys.proofs.compare_strings.Tie as tie
 

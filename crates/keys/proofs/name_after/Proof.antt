@@ -1,7 +1,7 @@
 -- `keys::name_after` meets its contract: one byte is a number of width 1.
 use mathlib.Core.Path.{◌∙◌}
 use borrow.Author.Rules.{rules}
-use Rattle.format.specs.Laws.Reads.{be-byte}
+use Rattle.format.proofs.Laws.Reads.{be-byte}
 use Rattle.keys.proofs.name_after.Statement.{statement}
 use Rattle.keys.proofs.name_after.Tie as tie
 

@@ -4,7 +4,7 @@ use mathlib.Core.Path.{refl, sym, ◌∙◌}
 use native.Mathlib.Omega.{arith}
 use borrow.Author.Rules.{rules}
 use Rattle.format.specs.Words.{TablesKept}
-use Rattle.format.specs.Laws.Rules.{tables-keep-header}
+use Rattle.format.proofs.Laws.Rules.{tables-keep-header}
 use Rattle.long_check.specs.Check.{Decided}
 use Rattle.long_check.specs.Laws.Stands.{stands-first, stands-done}
 use Rattle.long_check.specs.Laws.Check.{decided, breaks-decides}

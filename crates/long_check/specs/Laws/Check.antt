@@ -13,11 +13,11 @@ use Rattle.format.specs.Call.{check}
 use Rattle.format.specs.Words.{TablesKept, Lengths, Region, Accepted, HeldBefore, Breaks, Loops, sum}
 use Rattle.format.specs.declared.CheckAnswer.{CheckAnswer}
 use Rattle.format.specs.declared.Reading.TheVariants.{Short, Long}
-use Rattle.format.specs.Laws.Numbers.{never}
-use Rattle.format.specs.Laws.Links.{never-breaks, broken-number, breaks-long}
-use Rattle.format.specs.Laws.Buckets.{lengths, few, total}
-use Rattle.format.specs.Laws.Verdict.{Verdict, tables-broken, all_hold, broken, looped, verdict, tables-long, turns, turns-keep, endless}
-use Rattle.format.specs.Laws.Demand.{check-answers}
+use Rattle.format.proofs.Laws.Numbers.{never}
+use Rattle.format.proofs.Laws.Links.{never-breaks, broken-number, breaks-long}
+use Rattle.format.proofs.Laws.Buckets.{lengths, few, total}
+use Rattle.format.proofs.Laws.Verdict.{Verdict, tables-broken, all_hold, broken, looped, verdict, tables-long, turns, turns-keep, endless}
+use Rattle.format.proofs.Laws.Demand.{check-answers}
 use Rattle.long_check.specs.Scan.{BreaksLong}
 use Rattle.long_check.specs.Check.{unsound, sound_records, Decided}
 

@@ -14,14 +14,14 @@ use Rattle.format.specs.Chain.{itself}
 use Rattle.format.specs.Words.{link, link_field, KeepsAt, KeepsBelow, Region, sum}
 use Rattle.format.specs.declared.Fault.{Fault}
 use Rattle.format.specs.declared.Reading.TheVariants.{Short, Long}
-use Rattle.format.specs.Laws.Faults.{same_number}
-use Rattle.format.specs.Laws.Below.{below_suc}
-use Rattle.format.specs.Laws.Numbers.{never}
-use Rattle.format.specs.Laws.Rules.{long-notes, record-number}
-use Rattle.format.specs.Laws.Follow.{link-inside}
-use Rattle.format.specs.Laws.Along.{reads-link}
-use Rattle.format.specs.Laws.Links.{Repeat, round, holds-short, below-short, keeps-listed}
-use Rattle.format.specs.Laws.Regions.{reached, next-sound, chain-behind}
+use Rattle.format.proofs.Laws.Faults.{same_number}
+use Rattle.format.proofs.Laws.Below.{below_suc}
+use Rattle.format.proofs.Laws.Numbers.{never}
+use Rattle.format.proofs.Laws.Rules.{long-notes, record-number}
+use Rattle.format.proofs.Laws.Follow.{link-inside}
+use Rattle.format.proofs.Laws.Along.{reads-link}
+use Rattle.format.proofs.Laws.Links.{Repeat, round, holds-short, below-short, keeps-listed}
+use Rattle.format.proofs.Laws.Regions.{reached, next-sound, chain-behind}
 use Rattle.tables.specs.Tables.{TablesOf}
 use Rattle.tables.specs.Laws.{field-inside}
 use Rattle.tables.specs.declared.Tables.{Tables}

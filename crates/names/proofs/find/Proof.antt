@@ -6,7 +6,7 @@ use native.Mathlib.Omega.{arith}
 use borrow.Author.Rules.{rules}
 use Rattle.keys.specs.Key.{key_at}
 use Rattle.names.specs.Index.{Rising, Between}
-use Rattle.keys.specs.Laws.{order-equal}
+use Rattle.keys.proofs.Laws.{order-equal}
 use Rattle.names.specs.Laws.Between.{between-all, after-middle, before-middle}
 use Rattle.names.proofs.find.Statement.{statement}
 use Rattle.names.proofs.find.Tie as tie

@@ -7,7 +7,7 @@ use Rattle.keys.specs.declared.Ordering.{Ordering}
 use Rattle.keys.specs.declared.Ordering.TheVariants.{Less, Greater}
 use Rattle.keys.specs.Order.{order}
 use Rattle.names.specs.Index.{entry, Rising, Holds, Between}
-use Rattle.keys.specs.Laws.{not-less-than-itself, greater-less, less-than-a-lesser}
+use Rattle.keys.proofs.Laws.{not-less-than-itself, greater-less, less-than-a-lesser}
 
 module _ (key : ℕ → List ℕ) (index : List ℕ) (n : ℕ) (t : List ℕ) where
   pub between-all : Between key index n t 0 n

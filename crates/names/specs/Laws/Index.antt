@@ -5,11 +5,11 @@ use Rattle.std.proofs.Math.Bool.{not-eq-not}
 use Rattle.std.proofs.lemmas.Bool.{false≢true}
 use Rattle.std.proofs.Math.Decide.{dec_lt}
 use Rattle.format.specs.String.{among}
-use Rattle.format.specs.Laws.Names.{among_first_lem, among-rest, among-either}
+use Rattle.format.proofs.Laws.Names.{among_first_lem, among-rest, among-either}
 use Rattle.keys.specs.declared.Ordering.TheVariants.{Less}
 use Rattle.keys.specs.Order.{order}
 use Rattle.names.specs.Index.{entry, Rising, Holds, Represents, Between, Inserted, Answered}
-use Rattle.keys.specs.Laws.{numbers-less}
+use Rattle.keys.proofs.Laws.{numbers-less}
 use Rattle.names.specs.Laws.Between.{not-held}
 
 -- at the start: no entries

@@ -10,7 +10,7 @@ use Rattle.std.proofs.Math.Nat.{add-zero, add-suc}
 use native.Mathlib.Omega.{arith}
 use Rattle.std.proofs.Math.Decide.{dec_lt}
 use Rattle.format.specs.String.{same_bytes, among}
-use Rattle.format.specs.Laws.Names.{among_first_lem, among-rest, among-either}
+use Rattle.format.proofs.Laws.Names.{among_first_lem, among-rest, among-either}
 use Rattle.names.specs.Index.{Answered}
 use Rattle.names.specs.Repeat.{Named, Repeated, FirstRepeat, seen, Taken, Looked}
 use Rattle.names.specs.Laws.Index.{nothing-met}

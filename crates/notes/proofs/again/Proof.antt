@@ -1,7 +1,7 @@
 -- `notes::again` meets its contract.
 use mathlib.Core.Path.{sym, ◌∙◌}
 use borrow.Author.Rules.{rules}
-use Rattle.format.specs.Laws.Faults.{same_number}
+use Rattle.format.proofs.Laws.Faults.{same_number}
 use Rattle.notes.proofs.again.Statement.{statement}
 use Rattle.notes.proofs.again.Tie as tie
 

@@ -6,8 +6,8 @@ use native.Mathlib.Omega.{arith}
 use borrow.Author.Rules.{rules}
 use lib.ListN.{length}
 use Rattle.format.specs.Notes.{notes_fault, image_data_fault}
-use Rattle.format.specs.Laws.Faults.{same_number, first-end, first-stop, first-go-on}
-use Rattle.format.specs.Laws.Notes.{part-absent, same-data}
+use Rattle.format.proofs.Laws.Faults.{same_number, first-end, first-stop, first-go-on}
+use Rattle.format.proofs.Laws.Notes.{part-absent, same-data}
 use Rattle.notes.specs.Again.{KeptBehind}
 use Rattle.notes.proofs.behind.Statement.{statement}
 use Rattle.notes.proofs.behind.Tie as tie

@@ -3,7 +3,7 @@ use mathlib.Core.Path.{sym, ◌∙◌}
 use native.Mathlib.Omega.{arith}
 use borrow.Author.Rules.{rules}
 use Rattle.format.specs.Notes.{display_name_fault}
-use Rattle.format.specs.Laws.Faults.{or_else-first, or_else-next}
+use Rattle.format.proofs.Laws.Faults.{or_else-first, or_else-next}
 use Rattle.notes.proofs.display_name.Statement.{statement}
 use Rattle.notes.proofs.display_name.Tie as tie
 

@@ -6,7 +6,7 @@ use borrow.Author.Rules.{rules}
 use lib.ListN.{length}
 use Rattle.format.specs.Fault.{first_fault, step_on}
 use Rattle.format.specs.Notes.{display_name_fault}
-use Rattle.format.specs.Laws.Faults.{first-end, first-stop, first-go-on}
+use Rattle.format.proofs.Laws.Faults.{first-end, first-stop, first-go-on}
 use Rattle.notes.proofs.display_names.Statement.{statement}
 use Rattle.notes.proofs.display_names.Tie as tie
 

@@ -8,8 +8,8 @@ use lib.ListN.{length}
 use Rattle.format.specs.Number.{be}
 use Rattle.format.specs.Fault.{◌or_else◌}
 use Rattle.format.specs.Notes.{rectangle_fault, points_fault, names_fault, meta_data_fault}
-use Rattle.format.specs.Laws.Faults.{or_else-first, or_else-next}
-use Rattle.format.specs.Laws.Notes.{part-absent, part-outside, part-inside}
+use Rattle.format.proofs.Laws.Faults.{or_else-first, or_else-next}
+use Rattle.format.proofs.Laws.Notes.{part-absent, part-outside, part-inside}
 use Rattle.notes.proofs.meta_data.Statement.{statement}
 use Rattle.notes.proofs.meta_data.Tie as tie
 

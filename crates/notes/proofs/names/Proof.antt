@@ -7,9 +7,9 @@ use borrow.Author.Tests.{not-true, not-false}
 use lib.ListN.{length}
 use Rattle.format.specs.Number.{be}
 use Rattle.format.specs.Notes.{valid_entries, names_fault}
-use Rattle.format.specs.Laws.Reads.{list-ends}
+use Rattle.format.proofs.Laws.Reads.{list-ends}
 use mathlib.Core.Bool.{true, and-eq-true_iff}
-use Rattle.format.specs.Laws.Notes.{part-absent, part-outside, part-inside}
+use Rattle.format.proofs.Laws.Notes.{part-absent, part-outside, part-inside}
 use Rattle.notes.proofs.names.Statement.{statement}
 use Rattle.notes.proofs.names.Tie as tie
 

@@ -3,7 +3,7 @@ use mathlib.Core.Path.{ap, sym, ◌∙◌}
 use borrow.Author.Rules.{rules}
 use Rattle.format.specs.String.{is_whole}
 use Rattle.format.specs.Notes.{note_fault}
-use Rattle.format.specs.Laws.Faults.{unless-kept, unless-broken}
+use Rattle.format.proofs.Laws.Faults.{unless-kept, unless-broken}
 use Rattle.strings.proofs.Tags.{tag-whole, tag-not-whole}
 use Rattle.notes.proofs.note.Statement.{statement}
 use Rattle.notes.proofs.note.Tie as tie

@@ -8,8 +8,8 @@ use borrow.Author.Tests.{not-true, not-false, eq-eqb, ne_eqb, leb-true}
 use lib.ListN.{length}
 use Rattle.format.specs.Number.{be}
 use Rattle.format.specs.Notes.{pixel_data_inside, pixel_data_fault}
-use Rattle.format.specs.Laws.Faults.{unless-kept, unless-broken}
-use Rattle.format.specs.Laws.Notes.{part-absent, part-outside, part-inside}
+use Rattle.format.proofs.Laws.Faults.{unless-kept, unless-broken}
+use Rattle.format.proofs.Laws.Notes.{part-absent, part-outside, part-inside}
 use Rattle.notes.proofs.pixel_data.Statement.{statement}
 use Rattle.notes.proofs.pixel_data.Tie as tie
 

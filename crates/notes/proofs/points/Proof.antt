@@ -5,8 +5,8 @@ use borrow.Author.Rules.{rules}
 use borrow.Author.Tests.{not-true, not-false}
 use Rattle.format.specs.Number.{be}
 use Rattle.format.specs.Notes.{points_fault}
-use Rattle.format.specs.Laws.Faults.{unless-kept, unless-broken}
-use Rattle.format.specs.Laws.Notes.{part-absent, part-there}
+use Rattle.format.proofs.Laws.Faults.{unless-kept, unless-broken}
+use Rattle.format.proofs.Laws.Notes.{part-absent, part-there}
 use Rattle.notes.proofs.points.Statement.{statement}
 use Rattle.notes.proofs.points.Tie as tie
 

@@ -7,8 +7,8 @@ use borrow.Author.Tests.{le-leb, lt-leb}
 use lib.ListN.{length}
 use Rattle.format.specs.Number.{be}
 use Rattle.format.specs.Notes.{rectangle_fault}
-use Rattle.format.specs.Laws.Faults.{unless-kept, unless-broken}
-use Rattle.format.specs.Laws.Notes.{part-absent, part-there}
+use Rattle.format.proofs.Laws.Faults.{unless-kept, unless-broken}
+use Rattle.format.proofs.Laws.Notes.{part-absent, part-there}
 use Rattle.notes.proofs.rectangle.Statement.{statement}
 use Rattle.notes.proofs.rectangle.Tie as tie
 

@@ -3,7 +3,7 @@
 use mathlib.Core.Path.{◌∙◌, sym}
 use native.Mathlib.Omega.{arith}
 use borrow.Author.Rules.{rules}
-use Rattle.format.specs.Laws.Reads.{list-ends}
+use Rattle.format.proofs.Laws.Reads.{list-ends}
 use Rattle.notes.proofs.valid_entries.Statement.{statement}
 use Rattle.notes.proofs.valid_entries.Tie as tie
 

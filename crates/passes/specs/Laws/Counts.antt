@@ -6,15 +6,15 @@ use Rattle.std.proofs.Common.{sym, ap, ◌∙◌}
 use native.Mathlib.Omega.{arith}
 use Rattle.std.proofs.Math.ListN.{length, length-append}
 use Rattle.format.specs.Bytes.{joined}
-use Rattle.format.specs.Laws.Faults.{or_else-none}
+use Rattle.format.proofs.Laws.Faults.{or_else-none}
 use Rattle.catalogue.specs.Row.{row_end}
 use Rattle.catalogue.specs.Fields.{path_length, path_end, name_length, image_count, icon_end, path_count, icon_count_at, icon_count, first_icon_at, catalogue_end, path_text, icon_at, catalogue_in}
 use Rattle.catalogue.specs.Judgement.{icon_fields_fault, fields_fault}
 use Rattle.catalogue.specs.LaidOut.{nth_path, nth_icon, list_bytes, text_and_zero}
 use Rattle.catalogue.specs.Written.{lists_up_to, paths_up_to, names_up_to, written_size}
-use Rattle.catalogue.specs.Laws.Rows.{row-length, end-next}
-use Rattle.catalogue.specs.Laws.Spans.{number_fits}
-use Rattle.catalogue.specs.Laws.Judged.{told}
+use Rattle.catalogue.proofs.Laws.Rows.{row-length, end-next}
+use Rattle.catalogue.proofs.Laws.Spans.{number_fits}
+use Rattle.catalogue.proofs.Laws.Judged.{told}
 use Rattle.entries.specs.Laws.{row_inside, icon-inside}
 use Rattle.passes.specs.Passes.{Judged}
 use Rattle.passes.specs.Laws.Paths.{path-size}

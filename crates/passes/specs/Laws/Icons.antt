@@ -5,17 +5,17 @@ use Rattle.std.proofs.Common.{sym, ap, ◌∙◌, arith, length-append}
 use mathlib.Core.List.{List, [], ◌∷◌, ◌++◌, flat_map}
 use Rattle.format.specs.Fault.{first_fault}
 use Rattle.format.specs.Bytes.{bytes}
-use Rattle.format.specs.Laws.Faults.{or_else-none}
-use Rattle.format.specs.Laws.Bytes.{bytes-length}
+use Rattle.format.proofs.Laws.Faults.{or_else-none}
+use Rattle.format.proofs.Laws.Bytes.{bytes-length}
 use Rattle.catalogue.specs.Row.{row_end}
 use Rattle.catalogue.specs.Catalogue.{Icon, GoodImage, image_bytes, icon_is}
 use Rattle.catalogue.specs.Fields.{part, name_length, name_text, image_at, image_end, image_count, first_image_at, icon_end, icon_at, path_count, icon_count, first_icon_at, catalogue_in}
 use Rattle.catalogue.specs.Judgement.{image_field_fault, icon_fields_fault, fields_fault}
 use Rattle.catalogue.specs.LaidOut.{nth_icon, list_bytes, text_and_zero}
-use Rattle.catalogue.specs.Laws.Rows.{row_at, row-length, row_keeps, end-steps}
-use Rattle.catalogue.specs.Laws.Spans.{spans-are, part_length}
-use Rattle.catalogue.specs.Laws.Judged.{row_told, image-told}
-use Rattle.catalogue.specs.Laws.Cursor.{IconThere, icon-there}
+use Rattle.catalogue.proofs.Laws.Rows.{row_at, row-length, row_keeps, end-steps}
+use Rattle.catalogue.proofs.Laws.Spans.{spans-are, part_length}
+use Rattle.catalogue.proofs.Laws.Judged.{row_told, image-told}
+use Rattle.catalogue.proofs.Laws.Cursor.{IconThere, icon-there}
 use Rattle.entries.specs.Laws.{icon-inside}
 use Rattle.passes.specs.Passes.{Judged}
 

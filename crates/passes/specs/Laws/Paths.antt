@@ -1,13 +1,13 @@
 -- A path that a pass has come to: it lies inside, and what is put for it is the catalogue's path.
 use Rattle.std.specs.Prelude.{ℕ, ◌+◌, ◌≤◌, ◌<◌, ◌≡◌, List, [], ◌∷◌, length}
 use Rattle.std.proofs.Common.{sym, ap, ◌∙◌, arith, length-append}
-use Rattle.format.specs.Laws.Faults.{or_else-none}
+use Rattle.format.proofs.Laws.Faults.{or_else-none}
 use Rattle.catalogue.specs.Row.{row_end}
 use Rattle.catalogue.specs.Fields.{path_length, path_text, path_end, path_count, catalogue_in}
 use Rattle.catalogue.specs.Judgement.{path_fields_fault, fields_fault}
 use Rattle.catalogue.specs.LaidOut.{nth_path, text_and_zero}
-use Rattle.catalogue.specs.Laws.Rows.{row_at, row_keeps}
-use Rattle.catalogue.specs.Laws.Spans.{part_length}
+use Rattle.catalogue.proofs.Laws.Rows.{row_at, row_keeps}
+use Rattle.catalogue.proofs.Laws.Spans.{part_length}
 use Rattle.entries.specs.Laws.{path_inside}
 use Rattle.passes.specs.Passes.{Judged}
 

@@ -8,7 +8,7 @@ use lib.ListN.{take}
 use lib.Seq.{take_all}
 use Rattle.format.specs.String.{text_within}
 use Rattle.format.specs.Segments.{valid_segments, allowed_path}
-use Rattle.format.specs.Laws.Texts.{TextWithin, text-tells}
+use Rattle.format.proofs.Laws.Texts.{TextWithin, text-tells}
 use Rattle.paths.proofs.allowed_path.Statement.{statement}
 use Rattle.paths.proofs.allowed_path.Tie as tie
 

@@ -8,8 +8,8 @@ use mathlib.Core.Logic.{⊎_elim}
 use native.Mathlib.Omega.{arith}
 use borrow.Author.Rules.{rules}
 use lib.ListN.{length, get_or-eq_default}
-use Rattle.format.specs.Laws.Strings.{none_left, none_within, extent-ended, extent-long, extent-cut}
-use Rattle.format.specs.Laws.Segments.{none_free}
+use Rattle.format.proofs.Laws.Strings.{none_left, none_within, extent-ended, extent-long, extent-cut}
+use Rattle.format.proofs.Laws.Segments.{none_free}
 use Rattle.paths.proofs.Reading.{Reading, at-end, next-byte, next-slash, same-reading}
 use Rattle.paths.proofs.read_path.Statement.{statement}
 use Rattle.paths.proofs.read_path.Tie as tie

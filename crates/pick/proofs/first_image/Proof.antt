@@ -7,9 +7,9 @@ use mathlib.Core.Bool.{and-eq-true_iff}
 use native.Mathlib.Omega.{arith}
 use lib.ListN.{length}
 use Rattle.format.specs.Record.{images_fault}
-use Rattle.format.specs.Laws.Faults.{first-none, unless-none}
+use Rattle.format.proofs.Laws.Faults.{first-none, unless-none}
 use Rattle.pick.specs.Pick.{fits, first_image}
-use Rattle.pick.specs.Laws.Fitting.{image-none, image-here, image-later}
+use Rattle.pick.proofs.Laws.Fitting.{image-none, image-here, image-later}
 use Rattle.pick.proofs.first_image.Statement.{statement}
 use Rattle.pick.proofs.first_image.Tie as tie
 

@@ -5,7 +5,7 @@ use native.Mathlib.Omega.{arith}
 use borrow.Author.Rules.{rules}
 use Rattle.format.specs.Number.{be}
 use Rattle.format.specs.Header.{directories}
-use Rattle.pick.specs.Laws.Fitting.{index_below, fits-nowhere, fits-there}
+use Rattle.pick.proofs.Laws.Fitting.{index_below, fits-nowhere, fits-there}
 use Rattle.pick.proofs.fits.Statement.{statement}
 use Rattle.pick.proofs.fits.Tie as tie
 

@@ -6,7 +6,7 @@ use native.Mathlib.Omega.{arith}
 use borrow.Author.Tests.{le-leb, lt-leb}
 use lib.ListN.{length}
 use Rattle.format.specs.Fault.{first_fault, step_on}
-use Rattle.format.specs.Laws.Faults.{unless-broken, first-end, first-stop, first-go-on}
+use Rattle.format.proofs.Laws.Faults.{unless-broken, first-end, first-stop, first-go-on}
 use Rattle.pick.specs.Pick.{kind_fault, kinds_fault}
 use Rattle.pick.proofs.judge_kinds.Statement.{statement}
 use Rattle.pick.proofs.judge_kinds.Tie as tie

@@ -3,7 +3,7 @@
 use mathlib.Core.Path.{sym, ◌∙◌}
 use borrow.Author.Rules.{rules}
 use Rattle.tables.specs.Laws.{same-directories}
-use Rattle.pick.specs.Laws.Answer.{words-miscounted, words-counted}
+use Rattle.pick.proofs.Laws.Answer.{words-miscounted, words-counted}
 use Rattle.pick.proofs.judge_words.Statement.{statement}
 use Rattle.pick.proofs.judge_words.Tie as tie
 

@@ -6,12 +6,12 @@ use borrow.Author.Rules.{rules}
 use Rattle.format.specs.Number.{be}
 use Rattle.format.specs.Record.{bucket_of, images_at, images}
 use Rattle.format.specs.Words.{Keeps}
-use Rattle.format.specs.Laws.Rules.{ValidRecord, record-valid}
-use Rattle.format.specs.Laws.Lookup.{query-header, found-asked}
-use Rattle.format.specs.Laws.LookupAnswers.{found-keeps}
+use Rattle.format.proofs.Laws.Rules.{ValidRecord, record-valid}
+use Rattle.format.proofs.Laws.Lookup.{query-header, found-asked}
+use Rattle.format.proofs.Laws.LookupAnswers.{found-keeps}
 use Rattle.format.specs.declared.Reading.TheVariants.{Short}
 use Rattle.pick.specs.Pick.{pick_is}
-use Rattle.pick.specs.Laws.Answer.{words_count, pick-unfound, pick-undescribed, pick_first}
+use Rattle.pick.proofs.Laws.Answer.{words_count, pick-unfound, pick-undescribed, pick_first}
 use Rattle.pick.proofs.pick.Statement.{statement}
 use Rattle.pick.proofs.pick.Tie as tie
 

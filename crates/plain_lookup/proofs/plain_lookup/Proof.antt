@@ -16,16 +16,16 @@ use Rattle.format.specs.declared.Reading.TheVariants.{Short}
 use Rattle.format.specs.Call.{check, found_answer, answer_words}
 use Rattle.format.specs.declared.CheckAnswer.{CheckAnswer}
 use Rattle.format.specs.declared.LookupAnswer.{LookupAnswer}
-use Rattle.format.specs.Laws.Below.{below_suc}
-use Rattle.format.specs.Laws.Lookup.{answer_keeps}
-use Rattle.format.specs.Laws.Rules.{tables-keep-header}
-use Rattle.format.specs.Laws.Links.{keeps-listed}
+use Rattle.format.proofs.Laws.Below.{below_suc}
+use Rattle.format.proofs.Laws.Lookup.{answer_keeps}
+use Rattle.format.proofs.Laws.Rules.{tables-keep-header}
+use Rattle.format.proofs.Laws.Links.{keeps-listed}
 use Rattle.tables.specs.Laws.{valid-header}
 use Rattle.tables.specs.Tables.{Sound}
 use Rattle.in_order.specs.Cursor.{Here, At}
 use Rattle.in_order.specs.Laws.{records-few, here-keeps, here-below}
 use Rattle.plain_lookup.specs.Plain.{plain_lookup, plain_words}
-use Rattle.plain_lookup.specs.Laws.Tried.{bears-name, bears-other, tried-met, tried-none, plain-unallowed, plain-refused, plain-met, plain-none}
+use Rattle.plain_lookup.proofs.Laws.Tried.{bears-name, bears-other, tried-met, tried-none, plain-unallowed, plain-refused, plain-met, plain-none}
 use Rattle.plain_lookup.proofs.plain_lookup.Statement.{statement}
 use Rattle.plain_lookup.proofs.plain_lookup.Tie as tie
 

@@ -3,7 +3,7 @@
 use Rattle.std.proofs.Common.{◌≡◌, ◌+◌, ◌-◌, ◌*◌, ◌≤◌, length, sym, refl, ap, ◌∙◌, arith, rules}
 use borrow.Author.Tests.{not-true, not-false}
 use Rattle.format.specs.Record.{images_fault}
-use Rattle.format.specs.Laws.Faults.{unless-broken, first-end, first-stop, first-go-on}
+use Rattle.format.proofs.Laws.Faults.{unless-broken, first-end, first-stop, first-go-on}
 use Rattle.records.specs.ValidWords.{valid_words}
 use Rattle.records.proofs.images.Statement.{statement}
 use Rattle.records.proofs.images.Tie as tie

@@ -1,8 +1,8 @@
 -- `records::judge` meets its contract: the laws `record-misnamed` and `record-named` say which part
 -- judges first.
 use Rattle.std.proofs.Common.{sym, ◌∙◌, rules}
-use Rattle.format.specs.Laws.Faults.{same_number}
-use Rattle.format.specs.Laws.Records.{record-misnamed, record-named}
+use Rattle.format.proofs.Laws.Faults.{same_number}
+use Rattle.format.proofs.Laws.Records.{record-misnamed, record-named}
 use Rattle.records.proofs.judge.Statement.{statement}
 use Rattle.records.proofs.judge.Tie as tie
 

@@ -6,9 +6,9 @@ use mathlib.Core.Bool.{and-eq-true_iff}
 use borrow.Author.Tests.{not-true, not-false}
 use Rattle.format.specs.Number.{be}
 use Rattle.format.specs.Record.{images_at, valid_image_list}
-use Rattle.format.specs.Laws.Header.{header-valid}
-use Rattle.format.specs.Laws.Reads.{list-ends}
-use Rattle.format.specs.Laws.Records.{list-broken, list-kept}
+use Rattle.format.proofs.Laws.Header.{header-valid}
+use Rattle.format.proofs.Laws.Reads.{list-ends}
+use Rattle.format.proofs.Laws.Records.{list-broken, list-kept}
 use Rattle.tables.specs.Laws.{same-directories}
 use Rattle.records.proofs.judge_images.Statement.{statement}
 use Rattle.records.proofs.judge_images.Tie as tie

@@ -5,10 +5,10 @@ use Rattle.std.proofs.Common.{◌≡◌, ◌+◌, ◌%◌, true, sym, ap, ◌∙
 use Rattle.format.specs.String.{extent, is_whole, string_fault, hash}
 use Rattle.format.specs.Header.{buckets}
 use Rattle.format.specs.Record.{name_of, bucket_of, name_extent}
-use Rattle.format.specs.Laws.Strings.{whole-within}
-use Rattle.format.specs.Laws.Hashes.{hash-bucket}
-use Rattle.format.specs.Laws.Header.{header-valid}
-use Rattle.format.specs.Laws.Records.{name-unread, name-foreign, name-home}
+use Rattle.format.proofs.Laws.Strings.{whole-within}
+use Rattle.format.proofs.Laws.Hashes.{hash-bucket}
+use Rattle.format.proofs.Laws.Header.{header-valid}
+use Rattle.format.proofs.Laws.Records.{name-unread, name-foreign, name-home}
 use Rattle.strings.proofs.Tags.{tag-whole, tag-not-whole}
 use Rattle.tables.specs.Laws.{same-buckets}
 use Rattle.records.proofs.judge_name.Statement.{statement}

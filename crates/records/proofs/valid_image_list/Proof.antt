@@ -1,7 +1,7 @@
 -- `records::valid_image_list` meets its contract: where the list lies inside its count decides, and
 -- its count can be read (the law `list-ends`).
 use Rattle.std.proofs.Common.{sym, ◌∙◌, arith, rules}
-use Rattle.format.specs.Laws.Reads.{list-ends}
+use Rattle.format.proofs.Laws.Reads.{list-ends}
 use Rattle.records.proofs.valid_image_list.Statement.{statement}
 use Rattle.records.proofs.valid_image_list.Tie as tie
 

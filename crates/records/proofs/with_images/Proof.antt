@@ -5,7 +5,7 @@ use Rattle.std.proofs.Common.{◌≡◌, sym, refl, ap, ◌∙◌, arith, rules}
 use Rattle.format.specs.Number.{be}
 use Rattle.format.specs.Record.{images_at, images}
 use Rattle.format.specs.Call.{answer_words}
-use Rattle.format.specs.Laws.Lookup.{found-short, found-enough}
+use Rattle.format.proofs.Laws.Lookup.{found-short, found-enough}
 use Rattle.records.proofs.with_images.Statement.{statement}
 use Rattle.records.proofs.with_images.Tie as tie
 

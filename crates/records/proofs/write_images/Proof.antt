@@ -4,7 +4,7 @@
 use Rattle.std.proofs.Common.{◌≡◌, ◌+◌, ◌-◌, ◌*◌, ◌≤◌, ◌++◌, length, drop, refl, ◌∙◌, add-zero, arith, length-set}
 use native.Mathlib.Nat.{sub-zero, sub_self}
 use Rattle.format.specs.Record.{image_words}
-use Rattle.format.specs.Laws.Images.{two-stored, words-cons}
+use Rattle.format.proofs.Laws.Images.{two-stored, words-cons}
 use Rattle.records.proofs.write_images.Statement.{statement}
 use Rattle.records.proofs.write_images.Tie as tie
 

@@ -3,7 +3,7 @@ use Prim.Native.Nat.{◌-◌}
 use mathlib.Core.Path.{◌≡◌, refl}
 use native.Mathlib.Omega.{arith}
 use lib.ListN.{length}
-use Rattle.repeats.specs.Laws.{inside-later, Passed, passed_none, passed-repeat, passed-all, passed-block}
+use Rattle.repeats.proofs.Laws.{inside-later, Passed, passed_none, passed-repeat, passed-all, passed-block}
 use Rattle.repeats.proofs.first.Statement.{statement}
 use Rattle.repeats.proofs.first.Tie as tie
 

@@ -12,7 +12,7 @@ use Rattle.names.specs.Laws.Repeat.{looked-none, looked-more, looked-found}
 use Rattle.rounds.specs.Stepping.{ahead}
 use Rattle.rounds.specs.Laws.{ahead-next}
 use Rattle.repeats.specs.Along.{name_along}
-use Rattle.repeats.specs.Laws.{name-read}
+use Rattle.repeats.proofs.Laws.{name-read}
 use Rattle.repeats.proofs.look_for.Statement.{statement}
 use Rattle.repeats.proofs.look_for.Tie as tie
 

@@ -11,7 +11,7 @@ use Rattle.names.specs.Laws.Repeat.{taken_none, taken_more, taken-again}
 use Rattle.rounds.specs.Stepping.{ahead}
 use Rattle.rounds.specs.Laws.{ahead-next}
 use Rattle.repeats.specs.Along.{name_along}
-use Rattle.repeats.specs.Laws.{name-read}
+use Rattle.repeats.proofs.Laws.{name-read}
 use Rattle.repeats.proofs.take_in.Statement.{statement}
 use Rattle.repeats.proofs.take_in.Tie as tie
 

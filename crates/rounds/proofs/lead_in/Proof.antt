@@ -6,7 +6,7 @@ use native.Mathlib.Nat.{le_antisymm, zero-add}
 use native.Mathlib.Numerals.{add-one}
 use native.Mathlib.Omega.{arith}
 use borrow.Author.Rules.{rules}
-use Rattle.format.specs.Laws.Below.{below_suc}
+use Rattle.format.proofs.Laws.Below.{below_suc}
 use Rattle.rounds.specs.Stepping.{ahead}
 use Rattle.rounds.specs.Laws.{ahead-next}
 use Rattle.rounds.proofs.lead_in.Statement.{statement}

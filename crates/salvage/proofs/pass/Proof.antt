@@ -4,7 +4,7 @@ use mathlib.Core.Path.{◌≡◌}
 use Prim.Native.Nat.{◌+◌, ◌*◌, ◌≤◌}
 use native.Mathlib.Omega.{arith}
 use borrow.Author.Rules.{rules}
-use Rattle.format.specs.Laws.Bytes.{bytes-length}
+use Rattle.format.proofs.Laws.Bytes.{bytes-length}
 use Rattle.tables.specs.Laws.{valid-header}
 use Rattle.salvage.specs.Laws.Pass.{pass-whole, pass-many}
 use Rattle.salvage.proofs.pass.Statement.{statement}

@@ -4,7 +4,7 @@ use native.Mathlib.Omega.{arith}
 use borrow.Author.Rules.{rules}
 use Rattle.format.specs.Header.{header_fault}
 use Rattle.format.specs.declared.Fault.{Fault}
-use Rattle.format.specs.Laws.Faults.{same_number}
+use Rattle.format.proofs.Laws.Faults.{same_number}
 use Rattle.salvage_spec.specs.Call.{salvage_is}
 use Rattle.salvage.specs.Laws.Call.{refuses, header-refuses}
 use Rattle.salvage.proofs.salvage.Statement.{statement}

@@ -11,11 +11,11 @@ use Rattle.format.specs.Bytes.{put}
 use Rattle.format.specs.Fault.{fault, no_fault}
 use Rattle.format.specs.Header.{header_fault}
 use Rattle.format.specs.declared.Fault.{Fault}
-use Rattle.format.specs.Laws.Faults.{or_else-first, or_else-next, kept-passes, broken-speaks, unless-kept, unless-broken, broken-takes, also}
-use Rattle.format.specs.Laws.Put.{put_front}
+use Rattle.format.proofs.Laws.Faults.{or_else-first, or_else-next, kept-passes, broken-speaks, unless-kept, unless-broken, broken-takes, also}
+use Rattle.format.proofs.Laws.Put.{put_front}
 use Rattle.salvage_spec.specs.Salvage.{icons, entries}
 use Rattle.salvage_spec.specs.Call.{salvage_is, salvage_bytes, salvage_words, salvage_fault, salvage, bytes_left_of, words_left_of}
-use Rattle.salvage_spec.specs.Laws.Pieces.{words_count}
+use Rattle.salvage_spec.proofs.Laws.Pieces.{words_count}
 use Rattle.salvage_spec.specs.declared.SalvageAnswer.{SalvageAnswer}
 
 -- what a call answers and leaves

@@ -13,7 +13,7 @@ use Rattle.salvage_paths.specs.Closed.{ClosedTo, PathsPut}
 use Rattle.salvage_walk.specs.declared.Sums.{Sums}
 use Rattle.salvage_walk.specs.Walk.{WalksAll}
 use Rattle.salvage_spec.specs.Salvage.{icons}
-use Rattle.salvage_spec.specs.Laws.Pieces.{bytes-pieces, words-pieces}
+use Rattle.salvage_spec.proofs.Laws.Pieces.{bytes-pieces, words-pieces}
 use Rattle.salvage.specs.Pass.{PutWhole, Passes, Measures}
 
 module _ (s : List ℕ) {c₀ c₁ c₂ w₀ w₁ w₂ : List ℕ} {b m : ℕ} {a : Sums} (paths : PathsPut s c₀ c₁ 2 w₀ w₁ (directories s) b m)

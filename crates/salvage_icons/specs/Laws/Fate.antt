@@ -7,15 +7,15 @@ use Rattle.format.specs.Part.{list_inside}
 use Rattle.format.specs.String.{among}
 use Rattle.format.specs.Record.{name_of, images_at, name_fault, valid_image_list}
 use Rattle.format.specs.declared.Fault.{Fault}
-use Rattle.format.specs.Laws.Faults.{same_number, or_else-none, unless-none, broken-takes}
-use Rattle.format.specs.Laws.Reads.{list-ends}
-use Rattle.format.specs.Laws.Records.{name-valid}
+use Rattle.format.proofs.Laws.Faults.{same_number, or_else-none, unless-none, broken-takes}
+use Rattle.format.proofs.Laws.Reads.{list-ends}
+use Rattle.format.proofs.Laws.Records.{name-valid}
 use Rattle.keys.specs.Key.{key_at}
 use Rattle.keys.specs.declared.Kind.TheVariants.{Ended}
 use Rattle.names.specs.Index.{Represents, Answered}
 use Rattle.names.specs.Laws.Index.{met-again}
 use Rattle.salvage_spec.specs.Meetings.{fate_among}
-use Rattle.salvage_spec.specs.Laws.Kept.{fate-misnamed, fate-unlisted, fate-named}
+use Rattle.salvage_spec.proofs.Laws.Kept.{fate-misnamed, fate-unlisted, fate-named}
 use Rattle.salvage_icons.specs.Kept.{Kept, Meets}
 
 module _ (s : List ℕ) (k r : ℕ) {index : List ℕ} {n : ℕ} {ts : List (List ℕ)} where

@@ -6,12 +6,12 @@ use Rattle.format.specs.Number.{be}
 use Rattle.format.specs.Bytes.{bytes, joined}
 use Rattle.format.specs.String.{string}
 use Rattle.format.specs.Record.{name_of, name_part, images}
-use Rattle.format.specs.Laws.Strings.{whole-string, string-front}
-use Rattle.format.specs.Laws.Texts.{whole-inside}
+use Rattle.format.proofs.Laws.Strings.{whole-string, string-front}
+use Rattle.format.proofs.Laws.Texts.{whole-inside}
 use Rattle.catalogue.specs.Catalogue.{icon_bytes}
 use Rattle.salvage_spec.specs.Salvage.{icon}
 use Rattle.salvage_spec.specs.Pieces.{image_piece, images_piece}
-use Rattle.salvage_spec.specs.Laws.Pieces.{image-pieces}
+use Rattle.salvage_spec.proofs.Laws.Pieces.{image-pieces}
 use Rattle.salvage_icons.specs.Kept.{Kept}
 
 -- what is read of the record r: where its name stands, and how long it is

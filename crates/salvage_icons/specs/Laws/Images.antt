@@ -10,7 +10,7 @@ use Rattle.format.specs.Record.{images_at, images, valid_image}
 use Rattle.records.specs.ValidWords.{valid_words}
 use Rattle.records.specs.declared.ValidWords.{ValidWords}
 use Rattle.catalogue.specs.Catalogue.{Image, image_bytes}
-use Rattle.catalogue.specs.Laws.Images.{image-length}
+use Rattle.catalogue.proofs.Laws.Images.{image-length}
 use Rattle.filling.specs.Puts.{Puts}
 use Rattle.filling.specs.Laws.{puts_first, puts-next, puts-skip, puts-before}
 use Rattle.salvage_spec.specs.Salvage.{reindexed, kept_image, image_place, icon}

@@ -8,8 +8,8 @@ use lib.ListN.{length, length-set}
 use Rattle.format.specs.Header.{directories, path_fault}
 use Rattle.tables.specs.Laws.{valid-header, same-directories, path_inside, path-start, path-size}
 use Rattle.tables.specs.declared.JudgedPath.{JudgedPath}
-use Rattle.salvage_spec.specs.Laws.Paths.{paths-few}
-use Rattle.salvage_spec.specs.Laws.Places.{path-within}
+use Rattle.salvage_spec.proofs.Laws.Paths.{paths-few}
+use Rattle.salvage_spec.proofs.Laws.Places.{path-within}
 use Rattle.salvage_paths.specs.Closed.{ClosedTo, PathsPut}
 use Rattle.salvage_paths.specs.Laws.Table.{closed_none, closed-kept, closed-gone}
 use Rattle.salvage_paths.specs.Laws.Paths.{paths-put-none, paths-put-kept, paths-put-gone}

@@ -7,7 +7,7 @@ use borrow.Author.Rules.{rules}
 use borrow.Author.Tests.{not-true, not-false}
 use Rattle.format.specs.Header.{directories}
 use Rattle.format.specs.Record.{valid_image}
-use Rattle.format.specs.Laws.Images.{names-directory}
+use Rattle.format.proofs.Laws.Images.{names-directory}
 use Rattle.tables.specs.Laws.{valid-header, same-directories}
 use Rattle.salvage_paths.specs.Laws.Table.{bad-goes, stays_plain, told-goes, told-stays}
 use Rattle.salvage_paths.proofs.keep_image.Statement.{statement}

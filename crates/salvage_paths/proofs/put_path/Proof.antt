@@ -1,7 +1,7 @@
 -- `salvage_paths::put_path` meets its contract: the text is put behind its length.
 use native.Mathlib.Omega.{arith}
 use borrow.Author.Rules.{rules}
-use Rattle.format.specs.Laws.Bytes.{bytes-length}
+use Rattle.format.proofs.Laws.Bytes.{bytes-length}
 use Rattle.filling.specs.Laws.{puts-more}
 use Rattle.salvage_paths.proofs.put_path.Statement.{statement}
 use Rattle.salvage_paths.proofs.put_path.Tie as tie

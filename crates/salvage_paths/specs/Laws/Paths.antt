@@ -3,8 +3,8 @@ use Rattle.std.specs.Prelude.{ℕ, ◌+◌, ◌≡◌, List, ◌++◌, length, t
 use Rattle.std.proofs.Common.{sym, ap, ◌∙◌, arith, length-append}
 use Rattle.format.specs.Bytes.{bytes}
 use Rattle.format.specs.Header.{path_of, path_fault}
-use Rattle.format.specs.Laws.Bytes.{bytes-length}
-use Rattle.format.specs.Laws.Faults.{kept-takes, broken-takes}
+use Rattle.format.proofs.Laws.Bytes.{bytes-length}
+use Rattle.format.proofs.Laws.Faults.{kept-takes, broken-takes}
 use Rattle.tables.specs.Tables.{path_judged}
 use Rattle.tables.specs.Laws.{path_inside, path-is}
 use Rattle.tables.specs.declared.JudgedPath.{JudgedPath}

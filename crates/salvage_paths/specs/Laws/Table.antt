@@ -9,10 +9,10 @@ use Rattle.format.specs.Number.{be}
 use Rattle.format.specs.Bytes.{joined}
 use Rattle.format.specs.Header.{directories, path_of, path_fault}
 use Rattle.format.specs.Record.{valid_image}
-use Rattle.format.specs.Laws.Faults.{broken-takes}
-use Rattle.format.specs.Laws.Images.{names-directory}
+use Rattle.format.proofs.Laws.Faults.{broken-takes}
+use Rattle.format.proofs.Laws.Images.{names-directory}
 use Rattle.salvage_spec.specs.Salvage.{paths_below, new_index, reindexed, kept_image}
-use Rattle.salvage_spec.specs.Laws.Paths.{paths-few, index_below}
+use Rattle.salvage_spec.proofs.Laws.Paths.{paths-few, index_below}
 use Rattle.salvage_paths.specs.Closed.{ClosedTo, Closes}
 
 module _ (s : List ℕ) (i : ℕ) where

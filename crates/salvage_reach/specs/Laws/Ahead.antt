@@ -6,9 +6,9 @@ use Rattle.format.specs.Number.{be}
 use Rattle.format.specs.Fault.{no_fault, fault}
 use Rattle.format.specs.Header.{bucket_field}
 use Rattle.format.specs.Words.{link, link_field}
-use Rattle.format.specs.Laws.Below.{below_suc}
-use Rattle.format.specs.Laws.Along.{reads-link}
-use Rattle.format.specs.Laws.Links.{Repeat, earlier}
+use Rattle.format.proofs.Laws.Below.{below_suc}
+use Rattle.format.proofs.Laws.Along.{reads-link}
+use Rattle.format.proofs.Laws.Links.{Repeat, earlier}
 use Rattle.rounds.specs.Stepping.{ahead, Runs, LeadsIn}
 use Rattle.salvage_reach.specs.Laws.Reach.{reach-ended, reach-outside, reach-misnamed, reach-looped}
 use Rattle.salvage_reach.specs.declared.Mark.{Mark}

@@ -7,11 +7,11 @@ use Rattle.format.specs.Layout.{end_value}
 use Rattle.format.specs.Header.{bucket_field}
 use Rattle.format.specs.Record.{name_fault}
 use Rattle.format.specs.Words.{link, link_field, Inside}
-use Rattle.format.specs.Laws.Below.{below_suc}
+use Rattle.format.proofs.Laws.Below.{below_suc}
 use Rattle.format.specs.declared.Fault.{Fault}
 use Rattle.salvage_spec.specs.Meetings.{met, cut}
 use Rattle.salvage_spec.specs.Promise.{Passed, MeetsAt, misnamed, ended, outside, looped}
-use Rattle.salvage_spec.specs.Laws.Ends.{ends-met}
+use Rattle.salvage_spec.proofs.Laws.Ends.{ends-met}
 use Rattle.salvage_reach.specs.Ways.{PassesAt, PassesBelow, Reaches, reached_at}
 use Rattle.salvage_reach.specs.Laws.Rounds.{round-fresh, passes-met, stop-fresh}
 

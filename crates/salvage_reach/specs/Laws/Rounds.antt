@@ -9,11 +9,11 @@ use Rattle.std.proofs.Math.Nat.{add-zero, add-suc}
 use Rattle.format.specs.Number.{be}
 use Rattle.format.specs.Chain.{most_records}
 use Rattle.format.specs.Words.{link}
-use Rattle.format.specs.Laws.Below.{below_suc}
-use Rattle.format.specs.Laws.Links.{Repeat, earlier}
+use Rattle.format.proofs.Laws.Below.{below_suc}
+use Rattle.format.proofs.Laws.Links.{Repeat, earlier}
 use Rattle.salvage_spec.specs.Meetings.{named_below}
 use Rattle.salvage_spec.specs.Promise.{Fresh, MeetsAt}
-use Rattle.salvage_spec.specs.Laws.Meets.{named-somewhere, named-nowhere, few-met}
+use Rattle.salvage_spec.proofs.Laws.Meets.{named-somewhere, named-nowhere, few-met}
 use Rattle.salvage_reach.specs.Ways.{PassesAt, PassesBelow}
 
 module _ (s : List ℕ) (k : ℕ) where

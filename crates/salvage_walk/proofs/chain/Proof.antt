@@ -9,11 +9,11 @@ use lib.ListN.{length}
 use Rattle.format.specs.Header.{bucket_field}
 use Rattle.format.specs.Words.{link}
 use Rattle.format.specs.declared.Fault.{Fault}
-use Rattle.format.specs.Laws.Faults.{same_number}
+use Rattle.format.proofs.Laws.Faults.{same_number}
 use Rattle.tables.specs.Laws.{valid-header, same-field, field-inside}
 use Rattle.salvage_spec.specs.Meetings as definition
-use Rattle.salvage_spec.specs.Laws.Meets.{met-few}
-use Rattle.salvage_spec.specs.Laws.Places.{fate-within, cut-within}
+use Rattle.salvage_spec.proofs.Laws.Meets.{met-few}
+use Rattle.salvage_spec.proofs.Laws.Places.{fate-within, cut-within}
 use Rattle.salvage_walk.specs.Walk.{Steps}
 use Rattle.salvage_walk.specs.Laws.Chain.{steps_first, steps-link, steps-names, steps-fits, steps-inside, steps-kept, steps_next, steps-field}
 use Rattle.salvage_walk.specs.Laws.End.{walks-uncut, walks-cut, walks-many}

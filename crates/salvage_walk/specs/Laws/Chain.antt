@@ -10,7 +10,7 @@ use Rattle.format.specs.Fault.{if_kept}
 use Rattle.format.specs.Header.{bucket_field}
 use Rattle.format.specs.Words.{link, link_field}
 use Rattle.format.specs.declared.Fault.{Fault}
-use Rattle.format.specs.Laws.Along.{reads-link}
+use Rattle.format.proofs.Laws.Along.{reads-link}
 use Rattle.catalogue.specs.Catalogue.{Icon}
 use Rattle.keys.specs.Key.{key_at}
 use Rattle.keys.specs.declared.Kind.TheVariants.{Ended}
@@ -21,8 +21,8 @@ use Rattle.salvage_icons.specs.Laws.Fate.{kept-tells}
 use Rattle.salvage_spec.specs.Meetings.{met, fate_among, kept_names, fate}
 use Rattle.salvage_spec.specs.Salvage.{icon, icons_below, chain_icons}
 use Rattle.salvage_spec.specs.Pieces.{meeting_piece, meeting_rows}
-use Rattle.salvage_spec.specs.Laws.Lists.{few-joined, one-or-none, joined-le}
-use Rattle.salvage_spec.specs.Laws.Meets.{met-below, met-few}
+use Rattle.salvage_spec.proofs.Laws.Lists.{few-joined, one-or-none, joined-le}
+use Rattle.salvage_spec.proofs.Laws.Meets.{met-below, met-few}
 use Rattle.salvage_walk.specs.declared.Sums.{Sums}
 use Rattle.salvage_walk.specs.Walk.{Adds, Steps}
 use Rattle.salvage_walk.specs.Laws.Grows.{grows_none, grows-next}

@@ -6,7 +6,7 @@ use Rattle.format.specs.Bytes.{joined}
 use Rattle.format.specs.Header.{buckets}
 use Rattle.salvage_spec.specs.Salvage.{chain_icons, icons}
 use Rattle.salvage_spec.specs.Pieces.{chain_piece, chain_rows}
-use Rattle.salvage_spec.specs.Laws.Lists.{joined-le}
+use Rattle.salvage_spec.proofs.Laws.Lists.{joined-le}
 use Rattle.salvage_walk.specs.declared.Sums.{Sums}
 use Rattle.salvage_walk.specs.Walk.{Walks, WholeTo, WalksAll}
 use Rattle.salvage_walk.specs.Laws.Grows.{grows_none, grows-next}

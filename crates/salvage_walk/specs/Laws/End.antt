@@ -4,14 +4,14 @@ use Rattle.std.proofs.Common.{ap, ◌∙◌, append-nil, arith}
 use Rattle.std.proofs.Math.Nat.{le_antisymm}
 use Rattle.format.specs.Bytes.{joined}
 use Rattle.format.specs.declared.Fault.{Fault}
-use Rattle.format.specs.Laws.Faults.{kept-takes, broken-takes}
+use Rattle.format.proofs.Laws.Faults.{kept-takes, broken-takes}
 use Rattle.filling.specs.Puts.{Puts}
 use Rattle.filling.specs.Laws.{puts-more}
 use Rattle.salvage_spec.specs.Meetings.{met, cut}
 use Rattle.salvage_spec.specs.Salvage.{chain_icons}
 use Rattle.salvage_spec.specs.Call.{row_words}
 use Rattle.salvage_spec.specs.Pieces.{row_if, meeting_rows, chain_piece, chain_rows}
-use Rattle.salvage_spec.specs.Laws.Meets.{met-few}
+use Rattle.salvage_spec.proofs.Laws.Meets.{met-few}
 use Rattle.salvage_walk.specs.declared.Sums.{Sums}
 use Rattle.salvage_walk.specs.Walk.{Grows, Steps, Walks}
 use Rattle.salvage_walk.specs.Laws.Chain.{steps-many}

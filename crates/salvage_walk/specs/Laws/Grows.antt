@@ -3,7 +3,7 @@ use Rattle.std.specs.Prelude.{ℕ, ◌+◌, ◌≤◌, ◌≡◌, refl, List, []
 use Rattle.std.proofs.Common.{add-one, arith}
 use Rattle.format.specs.Bytes.{joined}
 use Rattle.format.specs.declared.Fault.{Fault}
-use Rattle.format.specs.Laws.Faults.{broken-takes}
+use Rattle.format.proofs.Laws.Faults.{broken-takes}
 use Rattle.catalogue.specs.Catalogue.{icon_bytes}
 use Rattle.filling.specs.Puts.{Puts}
 use Rattle.filling.specs.Laws.{puts_none, puts-more}

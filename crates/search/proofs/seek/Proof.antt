@@ -8,10 +8,10 @@ use mathlib.Core.Bool.{false}
 use native.Mathlib.Omega.{arith}
 use borrow.Author.Rules.{rules}
 use Rattle.format.specs.Chain.{follow}
-use Rattle.format.specs.Laws.Faults.{same_number}
-use Rattle.format.specs.Laws.Records.{bears-home}
-use Rattle.format.specs.Laws.Rules.{record-valid}
-use Rattle.format.specs.Laws.Follow.{follow-end, follow-outside, follow-broken, follow-record}
+use Rattle.format.proofs.Laws.Faults.{same_number}
+use Rattle.format.proofs.Laws.Records.{bears-home}
+use Rattle.format.proofs.Laws.Rules.{record-valid}
+use Rattle.format.proofs.Laws.Follow.{follow-end, follow-outside, follow-broken, follow-record}
 use Rattle.format.specs.declared.Next.TheVariants.{End, Broken}
 use Rattle.format.specs.declared.Reading.TheVariants.{Short}
 use Rattle.search.specs.Seek.{seen, Seeks}

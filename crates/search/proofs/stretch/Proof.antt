@@ -11,9 +11,9 @@ use Rattle.format.specs.Record.{name_of}
 use Rattle.format.specs.String.{same_bytes}
 use Rattle.format.specs.Chain.{follow, opens}
 use Rattle.format.specs.Words.{NoneBelow}
-use Rattle.format.specs.Laws.Below.{below_suc}
-use Rattle.format.specs.Laws.Follow.{opens_one}
-use Rattle.format.specs.Laws.Names.{same-equal, other-unequal}
+use Rattle.format.proofs.Laws.Below.{below_suc}
+use Rattle.format.proofs.Laws.Follow.{opens_one}
+use Rattle.format.proofs.Laws.Names.{same-equal, other-unequal}
 use Rattle.format.specs.declared.Next.TheVariants.{Record}
 use Rattle.format.specs.declared.Reading.TheVariants.{Short}
 use Rattle.tables.specs.Laws.{valid-header}

@@ -9,7 +9,7 @@ use Rattle.format.specs.Header.{buckets, directories}
 use Rattle.format.specs.Layout.{end_value}
 use Rattle.tables.specs.Laws.{same-buckets, same-directories, valid-header}
 use Rattle.squeeze_spec.specs.Squeezed.{contents}
-use Rattle.squeeze_spec.specs.Laws.Contents.{path-count}
+use Rattle.squeeze_spec.proofs.Laws.Contents.{path-count}
 use Rattle.catalogue.specs.Written.{front}
 use Rattle.squeeze_paths.specs.Pathed.{Pathed}
 use Rattle.squeeze_lists.specs.Shares.{Filled}

@@ -5,8 +5,8 @@ use native.Mathlib.Omega.{arith}
 use borrow.Author.Rules.{rules}
 use lib.ListN.{length-replicate}
 use Rattle.format.specs.Words.{Accepted}
-use Rattle.format.specs.Laws.Rules.{tables-keep-header}
-use Rattle.format.specs.Laws.Faults.{same_number}
+use Rattle.format.proofs.Laws.Rules.{tables-keep-header}
+use Rattle.format.proofs.Laws.Faults.{same_number}
 use Rattle.format.specs.declared.Reading.TheVariants.{Short}
 use Rattle.marks.specs.Laws.{zeros-unmarked}
 use Rattle.tables.specs.Laws.{same-buckets}

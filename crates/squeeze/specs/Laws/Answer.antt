@@ -11,17 +11,17 @@ use Rattle.format.specs.Header.{buckets}
 use Rattle.format.specs.declared.Fault.{Fault}
 use Rattle.format.specs.declared.CheckAnswer.{CheckAnswer}
 use Rattle.format.specs.declared.Reading.TheVariants.{Short}
-use Rattle.format.specs.Laws.Demand.{demand3}
-use Rattle.format.specs.Laws.Faults.{same_number, or_else-first, or_else-next, kept-passes, broken-speaks, unless-kept, unless-broken}
+use Rattle.format.proofs.Laws.Demand.{demand3}
+use Rattle.format.proofs.Laws.Faults.{same_number, or_else-first, or_else-next, kept-passes, broken-speaks, unless-kept, unless-broken}
 use Rattle.tables.specs.Laws.{same-buckets, same-directories}
 use Rattle.tables.specs.declared.Tables.{Tables}
 use Rattle.catalogue.specs.Call.{write_is, answer_to, left_by, allowed_size}
-use Rattle.catalogue.specs.Laws.Call.{answered, leaves-written, refused}
+use Rattle.catalogue.proofs.Laws.Call.{answered, leaves-written, refused}
 use Rattle.catalogue.specs.declared.WriteAnswer.{WriteAnswer}
 use Rattle.tables.specs.Tables.{Sound}
 use Rattle.squeeze_spec.specs.Squeezed.{squeezed}
 use Rattle.squeeze_spec.specs.Call.{data_fault, squeezed_size, squeeze_fault, squeeze, squeeze_leaves}
-use Rattle.squeeze_spec.specs.Laws.Contents.{path-count}
+use Rattle.squeeze_spec.proofs.Laws.Contents.{path-count}
 use Rattle.squeeze.specs.Sizes.{SizesOf, size_of}
 use Rattle.squeeze.specs.declared.Sizes.{Sizes}
 

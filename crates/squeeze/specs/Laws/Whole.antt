@@ -9,19 +9,19 @@ use Rattle.format.specs.Header.{buckets, directories}
 use Rattle.format.specs.Layout.{end_value}
 use Rattle.format.specs.Words.{Accepted}
 use Rattle.format.specs.declared.Reading.TheVariants.{Short}
-use Rattle.format.specs.Laws.Bytes.{bytes-length, joined_length, joined_same}
-use Rattle.format.specs.Laws.Put.{put-length, put-behind, put-nothing, put-over}
+use Rattle.format.proofs.Laws.Bytes.{bytes-length, joined_length, joined_same}
+use Rattle.format.proofs.Laws.Put.{put-length, put-behind, put-nothing, put-over}
 use Rattle.catalogue.specs.LaidOut.{Stands, first_in, directories_bytes}
 use Rattle.catalogue.specs.Written.{records_begin, lists_begin, front}
-use Rattle.catalogue.specs.Laws.Stands.{stands-join, stands_at, stands_same, stands-part}
-use Rattle.catalogue.specs.Laws.Putting.{put-stands, stands_after, stands-before, put-known}
-use Rattle.catalogue.specs.Laws.Front.{front_length}
+use Rattle.catalogue.proofs.Laws.Stands.{stands-join, stands_at, stands_same, stands-part}
+use Rattle.catalogue.proofs.Laws.Putting.{put-stands, stands_after, stands-before, put-known}
+use Rattle.catalogue.proofs.Laws.Front.{front_length}
 use Rattle.squeeze_spec.specs.Packed.{nth_list, packed_lists, packed_strings, directories_at, packed}
 use Rattle.squeeze_spec.specs.Squeezed.{contents, squeezed}
 use Rattle.squeeze_spec.specs.Call.{squeezed_size}
-use Rattle.squeeze_spec.specs.Laws.Uses.{use-most}
-use Rattle.squeeze_spec.specs.Laws.Packed.{packed-length}
-use Rattle.squeeze_spec.specs.Laws.Contents.{path-count}
+use Rattle.squeeze_spec.proofs.Laws.Uses.{use-most}
+use Rattle.squeeze_spec.proofs.Laws.Packed.{packed-length}
+use Rattle.squeeze_spec.proofs.Laws.Contents.{path-count}
 use Rattle.squeeze_paths.specs.Pathed.{strings_up_to, table_up_to, path_entry, Pathed}
 use Rattle.squeeze_paths.specs.declared.Texts.{Texts}
 use Rattle.squeeze_texts.specs.Named.{string_of}

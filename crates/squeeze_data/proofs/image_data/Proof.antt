@@ -7,7 +7,7 @@ use borrow.Author.Rules.{rules}
 use lib.ListN.{length, drop}
 use Rattle.format.specs.Chain.{all_records, nth_record}
 use Rattle.format.specs.declared.Reading.TheVariants.{Short}
-use Rattle.format.specs.Laws.Faults.{same_number}
+use Rattle.format.proofs.Laws.Faults.{same_number}
 use Rattle.squeeze_spec.specs.Call.{record_data_fault, data_fault}
 use Rattle.in_order.specs.Cursor.{At, Here}
 use Rattle.in_order.specs.Laws.{here-below}

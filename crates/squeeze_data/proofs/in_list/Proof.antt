@@ -5,7 +5,7 @@ use native.Mathlib.Omega.{arith}
 use borrow.Author.Tests.{eq-eqb, ne_eqb}
 use lib.ListN.{length}
 use Rattle.format.specs.Fault.{step_on}
-use Rattle.format.specs.Laws.Faults.{same_number, unless-kept, unless-broken, first-end, first-stop, first-go-on}
+use Rattle.format.proofs.Laws.Faults.{same_number, unless-kept, unless-broken, first-end, first-stop, first-go-on}
 use Rattle.squeeze_spec.specs.Call.{plain_fault, images_data_fault}
 use Rattle.squeeze_data.proofs.in_list.Statement.{statement}
 use Rattle.squeeze_data.proofs.in_list.Tie as tie

@@ -11,13 +11,13 @@ use Rattle.format.specs.Number.{be}
 use Rattle.format.specs.Record.{name_of}
 use Rattle.format.specs.Words.{Accepted}
 use Rattle.format.specs.declared.Reading.TheVariants.{Short}
-use Rattle.format.specs.Laws.Apart.{holds-few}
+use Rattle.format.proofs.Laws.Apart.{holds-few}
 use Rattle.keys.specs.Key.{key_at}
 use Rattle.keys.specs.declared.Kind.TheVariants.{Ended}
 use Rattle.tables.specs.Laws.{valid-header, same-field, field-inside}
 use Rattle.in_order.specs.Cursor.{Here}
 use Rattle.format.specs.Chain.{nth_name}
-use Rattle.format.specs.Laws.InOrder.{chain_length, chain-lengths}
+use Rattle.format.proofs.Laws.InOrder.{chain_length, chain-lengths}
 use Rattle.squeeze_icons.specs.Laws.Before.{Passing, passing-first, passing-inside, passing-all, passing-same, passing-next, passing-before}
 use Rattle.squeeze_icons.proofs.named_before.Statement.{statement}
 use Rattle.squeeze_icons.proofs.named_before.Tie as tie

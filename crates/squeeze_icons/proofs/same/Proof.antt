@@ -2,7 +2,7 @@
 use mathlib.Core.Path.{sym, ◌∙◌}
 use mathlib.Core.Bool.{true≢false, false≢true}
 use borrow.Author.Rules.{rules}
-use Rattle.keys.specs.Laws.{order-equal, less_other, greater-other}
+use Rattle.keys.proofs.Laws.{order-equal, less_other, greater-other}
 use Rattle.squeeze_icons.proofs.same.Statement.{statement}
 use Rattle.squeeze_icons.proofs.same.Tie as tie
 

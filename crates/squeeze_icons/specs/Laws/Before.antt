@@ -9,12 +9,12 @@ use Rattle.format.specs.Header.{bucket_field}
 use Rattle.format.specs.Record.{name_of}
 use Rattle.format.specs.Words.{link, Holds, Accepted, NoneBelow}
 use Rattle.format.specs.declared.Reading.TheVariants.{Short}
-use Rattle.format.specs.Laws.Below.{below_suc}
-use Rattle.format.specs.Laws.Links.{one-step}
+use Rattle.format.proofs.Laws.Below.{below_suc}
+use Rattle.format.proofs.Laws.Links.{one-step}
 use Rattle.squeeze_spec.specs.Uses.{is_first}
 use Rattle.format.specs.Chain.{nth_name}
-use Rattle.format.specs.Laws.InOrder.{chain_length, chain-lengths}
-use Rattle.squeeze_spec.specs.Laws.Order.{first-on-chain, none-below-first}
+use Rattle.format.proofs.Laws.InOrder.{chain_length, chain-lengths}
+use Rattle.squeeze_spec.proofs.Laws.Order.{first-on-chain, none-below-first}
 use Rattle.in_order.specs.Cursor.{Here}
 
 -- i records are passed, and none has the name of record n; r is the next

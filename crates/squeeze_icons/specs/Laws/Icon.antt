@@ -8,13 +8,13 @@ use Rattle.format.specs.Bytes.{joined}
 use Rattle.format.specs.Chain.{all_records, nth_record, nth_name}
 use Rattle.format.specs.Words.{Accepted}
 use Rattle.format.specs.declared.Reading.TheVariants.{Short}
-use Rattle.format.specs.Laws.Links.{keeps-bucket}
+use Rattle.format.proofs.Laws.Links.{keeps-bucket}
 use Rattle.catalogue.specs.Listed.{icon_of}
 use Rattle.squeeze_spec.specs.Uses.{is_first}
 use Rattle.squeeze_spec.specs.Squeezed.{kept_up_to, kept_records, contents}
-use Rattle.squeeze_spec.specs.Laws.Uses.{stored-first, stored-later}
-use Rattle.squeeze_spec.specs.Laws.Contents.{icon-count, icon-is}
-use Rattle.squeeze_spec.specs.Laws.Passes.{kept-number}
+use Rattle.squeeze_spec.proofs.Laws.Uses.{stored-first, stored-later}
+use Rattle.squeeze_spec.proofs.Laws.Contents.{icon-count, icon-is}
+use Rattle.squeeze_spec.proofs.Laws.Passes.{kept-number}
 use Rattle.in_order.specs.Cursor.{Real}
 use Rattle.in_order.specs.Laws.{records-few, here-keeps, here-below}
 use Rattle.squeeze_icons.specs.Staying.{Staying, IconAt}

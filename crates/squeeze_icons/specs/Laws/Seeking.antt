@@ -6,7 +6,7 @@ use Rattle.format.specs.Bytes.{joined}
 use Rattle.squeeze_spec.specs.Uses.{is_first}
 use Rattle.format.specs.Chain.{nth_record, nth_name}
 use Rattle.squeeze_spec.specs.Squeezed.{kept_up_to}
-use Rattle.squeeze_spec.specs.Laws.Uses.{stored-first, stored-later}
+use Rattle.squeeze_spec.proofs.Laws.Uses.{stored-first, stored-later}
 use Rattle.in_order.specs.Cursor.{At}
 use Rattle.in_order.specs.declared.Cursor.{Cursor}
 use Rattle.squeeze_icons.specs.Staying.{Seeking}

@@ -5,9 +5,9 @@ use Rattle.std.proofs.Common.{◌∙◌, arith, take-append-drop}
 use Rattle.std.proofs.Math.ListN.{drop, length-append, length-drop}
 use Rattle.std.proofs.Math.Seq.{length-take-le}
 use Rattle.format.specs.Bytes.{put}
-use Rattle.format.specs.Laws.Put.{put-length, put-nothing, put-more, put-before}
+use Rattle.format.proofs.Laws.Put.{put-length, put-nothing, put-more, put-before}
 use Rattle.catalogue.specs.LaidOut.{Stands}
-use Rattle.catalogue.specs.Laws.Putting.{stands-before, put-known}
+use Rattle.catalogue.proofs.Laws.Putting.{stands-before, put-known}
 use Rattle.filling.specs.Puts.{Puts}
 use Rattle.squeeze_index.specs.Both.{PutsBoth}
 

@@ -8,7 +8,7 @@ use Rattle.format.specs.String.{among}
 use Rattle.names.specs.Repeat.{seen}
 use Rattle.names.specs.Laws.Repeat.{named-seen, seen-named}
 use Rattle.squeeze_spec.specs.Uses.{first_with, first_use, is_first, stored_once, place_of}
-use Rattle.squeeze_spec.specs.Laws.Uses.{first-with, first-with-is, use-same, first-new, new-first}
+use Rattle.squeeze_spec.proofs.Laws.Uses.{first-with, first-with-is, use-same, first-new, new-first}
 
 module _ (key : ℕ → List ℕ) (i : ℕ) where
   pub unmet-first : among (key i) (seen key i) ≡ false → is_first key i ≡ true

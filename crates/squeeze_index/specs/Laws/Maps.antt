@@ -3,7 +3,7 @@ use Rattle.std.specs.Prelude.{ℕ, ◌+◌, ◌-◌, ◌≤◌, ◌<◌, ◌≡�
 use Rattle.std.proofs.Common.{sym, ap, ◌∙◌, ⊎_elim, arith}
 use Rattle.std.proofs.Math.Decide.{dec_lt}
 use Rattle.format.specs.String.{among}
-use Rattle.format.specs.Laws.Names.{among-rest, among-either}
+use Rattle.format.proofs.Laws.Names.{among-rest, among-either}
 use Rattle.names.specs.Index.{entry, Represents, Within, Between, Spotted}
 use Rattle.names.specs.declared.Spot.{Spot}
 use Rattle.names.specs.declared.Spot.TheVariants.{Found, Missing}

@@ -5,9 +5,9 @@ use Rattle.std.proofs.Math.Decide.{dec_lt}
 use Rattle.format.specs.Bytes.{bytes}
 use Rattle.format.specs.Choice.{if◌then◌else◌}
 use Rattle.format.specs.Layout.{end_value}
-use Rattle.format.specs.Laws.Bytes.{joined_same}
+use Rattle.format.proofs.Laws.Bytes.{joined_same}
 use Rattle.squeeze_spec.specs.Uses.{first_use, is_first, place_of}
-use Rattle.squeeze_spec.specs.Laws.Uses.{use-most, use-first}
+use Rattle.squeeze_spec.proofs.Laws.Uses.{use-most, use-first}
 use Rattle.squeeze_lists.specs.Cells.{cell_to, cell, cells}
 
 module _ (part : ℕ → List ℕ) (at : ℕ) where

@@ -8,9 +8,9 @@ use Rattle.std.proofs.Math.Bool.{true, false, not-eq-not}
 use Rattle.std.proofs.lemmas.Bool.{false≢true}
 use Rattle.std.proofs.Math.Decide.{dec_lt}
 use Rattle.format.specs.String.{among}
-use Rattle.format.specs.Laws.Names.{among_first_lem, among-rest, among-either}
+use Rattle.format.proofs.Laws.Names.{among_first_lem, among-rest, among-either}
 use Rattle.squeeze_spec.specs.Uses.{first_use, is_first}
-use Rattle.squeeze_spec.specs.Laws.Uses.{use-same, use-first, use-found}
+use Rattle.squeeze_spec.proofs.Laws.Uses.{use-same, use-first, use-found}
 use Rattle.squeeze_lists.specs.Cells.{news}
 
 module _ (part : ℕ → List ℕ) (a : ℕ) where

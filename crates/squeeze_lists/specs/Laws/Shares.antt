@@ -8,14 +8,14 @@ use Rattle.format.specs.Bytes.{bytes, put}
 use Rattle.format.specs.Layout.{end_value}
 use Rattle.format.specs.Number.{be}
 use Rattle.format.specs.String.{among}
-use Rattle.format.specs.Laws.Put.{put-length, put-more}
+use Rattle.format.proofs.Laws.Put.{put-length, put-more}
 use Rattle.keys.specs.Key.{key_at}
 use Rattle.keys.specs.declared.Kind.TheVariants.{Images}
 use Rattle.names.specs.Index.{entry, Between}
 use Rattle.squeeze_spec.specs.Uses.{first_use, is_first, place_of}
 use Rattle.squeeze_spec.specs.Packed.{nth_list}
 use Rattle.squeeze_spec.specs.Squeezed.{contents}
-use Rattle.squeeze_spec.specs.Laws.Uses.{use-most, use-same, stored-first, stored-later, stored-inside}
+use Rattle.squeeze_spec.proofs.Laws.Uses.{use-most, use-same, stored-first, stored-later, stored-inside}
 use Rattle.squeeze_index.specs.Maps.{Adds}
 use Rattle.squeeze_index.specs.Laws.Maps.{maps_none, maps-met, maps-value, maps-missing, maps-more}
 use Rattle.squeeze_index.specs.Laws.Firsts.{stored_at, first-own, stored-place, stored-new}

@@ -3,11 +3,11 @@ use Rattle.std.specs.Prelude.{ℕ, ◌+◌, ◌*◌, ◌^◌, ◌≤◌, ◌<◌
 use Rattle.std.proofs.Common.{sym, ap, ◌∙◌, append-nil, arith, lit≤}
 use Rattle.format.specs.Bytes.{bytes, joined, put}
 use Rattle.format.specs.Number.{be}
-use Rattle.format.specs.Laws.Bytes.{bytes-length, joined_length}
-use Rattle.format.specs.Laws.Put.{put-length, put-inside}
+use Rattle.format.proofs.Laws.Bytes.{bytes-length, joined_length}
+use Rattle.format.proofs.Laws.Put.{put-length, put-inside}
 use Rattle.catalogue.specs.LaidOut.{Stands}
-use Rattle.catalogue.specs.Laws.Stands.{stands-part, stands_at, stands-number, stands-whole}
-use Rattle.catalogue.specs.Laws.Putting.{put-stands, stands-before, stands-changed}
+use Rattle.catalogue.proofs.Laws.Stands.{stands-part, stands_at, stands-number, stands-whole}
+use Rattle.catalogue.proofs.Laws.Putting.{put-stands, stands-before, stands-changed}
 use Rattle.squeeze_index.specs.Laws.Both.{put-swap}
 
 module _ (f : ℕ → ℕ) (m : ℕ) where

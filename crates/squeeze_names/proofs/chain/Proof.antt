@@ -8,7 +8,7 @@ use lib.ListN.{length}
 use Rattle.rounds.specs.Stepping.{ahead}
 use Rattle.rounds.specs.Laws.{ahead-adds}
 use Rattle.repeats.specs.Along.{name_along}
-use Rattle.repeats.specs.Laws.{names-later, inside-later}
+use Rattle.repeats.proofs.Laws.{names-later, inside-later}
 use Rattle.squeeze_names.specs.Repeated.{Adds, among_first}
 use Rattle.squeeze_names.specs.Laws.Blocks.{blocks-none, blocks_more, blocks-all}
 use Rattle.squeeze_names.proofs.chain.Statement.{statement}

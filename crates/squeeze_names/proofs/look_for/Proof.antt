@@ -13,7 +13,7 @@ use Rattle.names.specs.Index.{Represents}
 use Rattle.rounds.specs.Stepping.{ahead}
 use Rattle.rounds.specs.Laws.{ahead-next}
 use Rattle.repeats.specs.Along.{LeadsInside, name_along}
-use Rattle.repeats.specs.Laws.{name-read}
+use Rattle.repeats.proofs.Laws.{name-read}
 use Rattle.squeeze_names.specs.Repeated.{Adds}
 use Rattle.squeeze_names.specs.Laws.Adds.{adds_none, adds-noted}
 use Rattle.squeeze_names.proofs.look_for.Statement.{statement}

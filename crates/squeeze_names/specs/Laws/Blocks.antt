@@ -15,7 +15,7 @@ use Rattle.names.specs.Laws.Repeat.{seen_parts}
 use Rattle.marks.specs.Marks.{marked}
 use Rattle.rounds.specs.Stepping.{ahead}
 use Rattle.repeats.specs.Along.{name_along}
-use Rattle.repeats.specs.Laws.{name-read}
+use Rattle.repeats.proofs.Laws.{name-read}
 use Rattle.squeeze_names.specs.Repeated.{Noted, Adds, among_before, among_first, TakenIn}
 use Rattle.squeeze_names.specs.Laws.Adds.{adds_none, adds_same, adds-noted}
 use Rattle.squeeze_names.specs.declared.Block.{Block}

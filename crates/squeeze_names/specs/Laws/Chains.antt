@@ -11,7 +11,7 @@ use Rattle.format.specs.Header.{buckets, bucket_field}
 use Rattle.format.specs.Record.{name_of}
 use Rattle.format.specs.Words.{link, Holds, sum}
 use Rattle.format.specs.declared.Reading.TheVariants.{Short}
-use Rattle.format.specs.Laws.Order.{sum-before}
+use Rattle.format.proofs.Laws.Order.{sum-before}
 use Rattle.names.specs.Laws.Repeat.{named-seen, seen-named}
 use Rattle.marks.specs.Marks.{marked}
 use Rattle.rounds.specs.Stepping.{ahead}
@@ -21,8 +21,8 @@ use Rattle.tables.specs.Tables.{Sound}
 use Rattle.tables.specs.declared.Tables.{Tables}
 use Rattle.gathering.specs.Laws.Repeats.{ahead-link}
 use Rattle.format.specs.Chain.{nth_name}
-use Rattle.format.specs.Laws.InOrder.{chain_length, StandsAt, chain_length_lem, order-length, step-in-order}
-use Rattle.squeeze_spec.specs.Laws.Order.{first-on-chain, none-below-first}
+use Rattle.format.proofs.Laws.InOrder.{chain_length, StandsAt, chain_length_lem, order-length, step-in-order}
+use Rattle.squeeze_spec.proofs.Laws.Order.{first-on-chain, none-below-first}
 use Rattle.in_order.specs.Laws.{records-few}
 use Rattle.squeeze_names.specs.Repeated.{Adds, among_before, comes_again, RepeatsMarked}
 use Rattle.squeeze_names.specs.Laws.Adds.{adds_none, adds-behind}

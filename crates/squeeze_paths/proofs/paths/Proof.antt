@@ -7,7 +7,7 @@ use borrow.Author.Rules.{rules}
 use lib.ListN.{length}
 use Rattle.format.specs.Bytes.{bytes}
 use Rattle.format.specs.Header.{directories}
-use Rattle.format.specs.Laws.Bytes.{bytes-length}
+use Rattle.format.proofs.Laws.Bytes.{bytes-length}
 use Rattle.filling.specs.Puts.{Puts}
 use Rattle.squeeze_index.specs.Laws.Both.{puts-same}
 use Rattle.tables.specs.Laws.{same-directories, valid-header}

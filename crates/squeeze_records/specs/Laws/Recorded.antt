@@ -8,24 +8,24 @@ use Rattle.format.specs.Layout.{end_value, name_field}
 use Rattle.format.specs.Number.{be}
 use Rattle.format.specs.Words.{Accepted}
 use Rattle.format.specs.declared.Reading.TheVariants.{Short}
-use Rattle.format.specs.Laws.Bytes.{bytes-length}
-use Rattle.format.specs.Laws.Put.{put-length, put-more}
+use Rattle.format.proofs.Laws.Bytes.{bytes-length}
+use Rattle.format.proofs.Laws.Put.{put-length, put-more}
 use Rattle.catalogue.specs.LaidOut.{Stands, icon_bucket, text_and_zero}
 use Rattle.catalogue.specs.Written.{records_begin, front}
 use Rattle.catalogue.specs.Append.{new_record, lead_field}
-use Rattle.catalogue.specs.Laws.Stands.{stands-number, stands-inside, stands_at, stands_same}
-use Rattle.catalogue.specs.Laws.Putting.{stands_after, stands-before}
-use Rattle.catalogue.specs.Laws.Front.{front_length, new-length}
-use Rattle.catalogue.specs.Laws.Grows.{lead-below, front-grows}
+use Rattle.catalogue.proofs.Laws.Stands.{stands-number, stands-inside, stands_at, stands_same}
+use Rattle.catalogue.proofs.Laws.Putting.{stands_after, stands-before}
+use Rattle.catalogue.proofs.Laws.Front.{front_length, new-length}
+use Rattle.catalogue.proofs.Laws.Grows.{lead-below, front-grows}
 use Rattle.keys.specs.Key.{key_at}
 use Rattle.keys.specs.declared.Kind.TheVariants.{Ended}
 use Rattle.squeeze_spec.specs.Uses.{place_of}
 use Rattle.squeeze_spec.specs.Packed.{nth_string, string_part}
 use Rattle.squeeze_spec.specs.Squeezed.{contents}
-use Rattle.squeeze_spec.specs.Laws.Uses.{use-same, stored-inside}
-use Rattle.squeeze_spec.specs.Laws.Contents.{path-count, some-bucket, contents-rise}
-use Rattle.squeeze_spec.specs.Laws.Passes.{lead-first, lead-next}
-use Rattle.squeeze_spec.specs.Laws.There.{name-there}
+use Rattle.squeeze_spec.proofs.Laws.Uses.{use-same, stored-inside}
+use Rattle.squeeze_spec.proofs.Laws.Contents.{path-count, some-bucket, contents-rise}
+use Rattle.squeeze_spec.proofs.Laws.Passes.{lead-first, lead-next}
+use Rattle.squeeze_spec.proofs.Laws.There.{name-there}
 use Rattle.squeeze_icons.specs.Staying.{IconAt}
 use Rattle.squeeze_index.specs.Laws.Both.{put-swap}
 use Rattle.squeeze_paths.specs.Pathed.{strings_up_to}

@@ -11,8 +11,8 @@ use Rattle.squeeze_spec.specs.Uses.{added, stored_once}
 use Rattle.squeeze_spec.specs.Packed.{nth_string, string_part, nth_list, packed_strings}
 use Rattle.squeeze_spec.specs.Squeezed.{contents}
 use Rattle.squeeze_spec.specs.Call.{squeezed_size}
-use Rattle.squeeze_spec.specs.Laws.Uses.{use-same, stored_grows, stored-inside}
-use Rattle.squeeze_spec.specs.Laws.Contents.{path-count}
+use Rattle.squeeze_spec.proofs.Laws.Uses.{use-same, stored_grows, stored-inside}
+use Rattle.squeeze_spec.proofs.Laws.Contents.{path-count}
 use Rattle.squeeze_paths.specs.Pathed.{strings_up_to}
 use Rattle.squeeze_texts.specs.Named.{string_of}
 use Rattle.squeeze_records.specs.Recorded.{places, strings, icons}

@@ -11,10 +11,10 @@ use Rattle.std.proofs.Math.ListN.{length}
 use Rattle.format.specs.Choice.{if◌then◌else◌}
 use Rattle.format.specs.Number.{be}
 use Rattle.format.specs.String.{among}
-use Rattle.format.specs.Laws.Names.{among_first_lem, among-rest, among-either}
+use Rattle.format.proofs.Laws.Names.{among_first_lem, among-rest, among-either}
 use Rattle.keys.specs.Key.{key_at}
 use Rattle.keys.specs.declared.Kind.TheVariants.{Images}
-use Rattle.keys.specs.Laws.{not-less-than-itself}
+use Rattle.keys.proofs.Laws.{not-less-than-itself}
 use Rattle.names.specs.Index.{entry, Between, Inserted}
 use Rattle.names.specs.Repeat.{seen}
 use Rattle.squeeze_spec.specs.Packed.{nth_list, packed_lists}

@@ -9,11 +9,11 @@ use native.Mathlib.Omega.{arith}
 use Rattle.format.specs.Bytes.{joined}
 use Rattle.format.specs.Choice.{if◌then◌else◌}
 use Rattle.format.specs.String.{among}
-use Rattle.format.specs.Laws.Names.{among_first_lem, among-rest, among-either, equal_or_not}
+use Rattle.format.proofs.Laws.Names.{among_first_lem, among-rest, among-either, equal_or_not}
 use Rattle.names.specs.Repeat.{seen}
 use Rattle.names.specs.Laws.Repeat.{named-seen, seen-named}
 use Rattle.squeeze_spec.specs.Uses.{stored_once}
-use Rattle.squeeze_spec.specs.Laws.Uses.{stored-first, stored-later}
+use Rattle.squeeze_spec.proofs.Laws.Uses.{stored-first, stored-later}
 use Rattle.squeeze_index.specs.Laws.Firsts.{unmet-first, met-later}
 use Rattle.squeeze_sizes.specs.Distinct.{from, distinct}
 

@@ -8,21 +8,21 @@ use Rattle.format.specs.Number.{be}
 use Rattle.format.specs.Record.{images_at, images}
 use Rattle.format.specs.Words.{Keeps, Accepted}
 use Rattle.format.specs.declared.Reading.TheVariants.{Short}
-use Rattle.format.specs.Laws.Bytes.{bytes-length}
-use Rattle.format.specs.Laws.Links.{keeps-listed}
+use Rattle.format.proofs.Laws.Bytes.{bytes-length}
+use Rattle.format.proofs.Laws.Links.{keeps-listed}
 use Rattle.catalogue.specs.Catalogue.{Icon, image_bytes}
 use Rattle.catalogue.specs.Fields.{AreBytes, image_at, image_end}
 use Rattle.catalogue.specs.LaidOut.{list_bytes}
 use Rattle.catalogue.specs.Listed.{icon_of}
-use Rattle.catalogue.specs.Laws.Images.{images-length}
-use Rattle.catalogue.specs.Laws.Rows.{row-length}
+use Rattle.catalogue.proofs.Laws.Images.{images-length}
+use Rattle.catalogue.proofs.Laws.Rows.{row-length}
 use Rattle.keys.specs.Key.{key_at}
 use Rattle.keys.specs.declared.Kind.TheVariants.{Images}
 use Rattle.squeeze_spec.specs.Packed.{nth_list}
 use Rattle.squeeze_spec.specs.Squeezed.{kept_records, contents}
-use Rattle.squeeze_spec.specs.Laws.Kept.{kept-on-chain}
-use Rattle.squeeze_spec.specs.Laws.Contents.{icon-count, icon-is}
-use Rattle.squeeze_spec.specs.Laws.There.{list-there}
+use Rattle.squeeze_spec.proofs.Laws.Kept.{kept-on-chain}
+use Rattle.squeeze_spec.proofs.Laws.Contents.{icon-count, icon-is}
+use Rattle.squeeze_spec.proofs.Laws.There.{list-there}
 use Rattle.squeeze_icons.specs.Staying.{IconAt}
 use Rattle.squeeze_sizes.specs.Distinct.{distinct}
 use Rattle.squeeze_sizes.specs.Counting.{ListAt}

@@ -5,7 +5,7 @@ use native.Mathlib.Omega.{arith}
 use borrow.Author.Rules.{rules}
 use lib.ListN.{drop}
 use Rattle.names.specs.declared.Spot.TheVariants.{Found}
-use Rattle.format.specs.Laws.Strings.{whole-string}
+use Rattle.format.proofs.Laws.Strings.{whole-string}
 use Rattle.squeeze_index.specs.Laws.Maps.{found_below, found-entry, missing-between, maps-met, maps-value, maps-missing}
 use Rattle.squeeze_texts.specs.Laws.{stores-used, stores-new}
 use Rattle.squeeze_texts.proofs.store.Statement.{statement}

@@ -2,7 +2,7 @@
 use Rattle.std.proofs.Common.{◌≡◌, drop, sym, ap, ◌∙◌, rules}
 use mathlib.Core.Bool.{false≢true}
 use Rattle.format.specs.String.{extent, is_whole}
-use Rattle.format.specs.Laws.Strings.{whole_length}
+use Rattle.format.proofs.Laws.Strings.{whole_length}
 use Rattle.strings.proofs.Tags.{tag-not-whole}
 use Rattle.strings.proofs.name_length.Statement.{statement}
 use Rattle.strings.proofs.name_length.Tie as tie

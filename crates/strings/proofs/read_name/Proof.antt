@@ -5,9 +5,9 @@ use Rattle.std.proofs.Common.{◌≡◌, ◌-◌, ◌<◌, ◌≤◌, map, lengt
 use native.Mathlib.Nat.{mod-add-mod}
 use lib.ListN.{get_or-eq_default}
 use Rattle.format.specs.String.{string, signed, hash_from, hash}
-use Rattle.format.specs.Laws.Strings.{left, none_left, none_within, one_less, Passed, passed-next, extent-ended, extent-long, extent-cut}
-use Rattle.format.specs.Laws.Paths.{string-first}
-use Rattle.format.specs.Laws.Hashes.{hash-from-none}
+use Rattle.format.proofs.Laws.Strings.{left, none_left, none_within, one_less, Passed, passed-next, extent-ended, extent-long, extent-cut}
+use Rattle.format.proofs.Laws.Paths.{string-first}
+use Rattle.format.proofs.Laws.Hashes.{hash-from-none}
 use Rattle.strings.proofs.read_name.Statement.{statement}
 use Rattle.strings.proofs.read_name.Tie as tie
 

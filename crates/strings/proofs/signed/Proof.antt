@@ -2,7 +2,7 @@
 -- is added to both and wrapped. Rests on `signed-raised` and `taken-away`.
 use Rattle.std.proofs.Common.{sym, ◌∙◌, mod-eq_of_lt, arith, rules}
 use Rattle.format.specs.String.{signed}
-use Rattle.format.specs.Laws.Hashes.{signed-raised}
+use Rattle.format.proofs.Laws.Hashes.{signed-raised}
 use Rattle.strings.proofs.Wrapping.{taken-away}
 use Rattle.strings.proofs.signed.Statement.{statement}
 use Rattle.strings.proofs.signed.Tie as tie

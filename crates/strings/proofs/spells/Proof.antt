@@ -5,7 +5,7 @@ use mathlib.Core.Bool.{not-eq-not}
 use native.Mathlib.Decide.{ℕ_discrete}
 use lib.Seq.{take-length}
 use Rattle.format.specs.String.{spells_name, allowed}
-use Rattle.format.specs.Laws.Names.{Begins, spells-begins, begins-spells}
+use Rattle.format.proofs.Laws.Names.{Begins, spells-begins, begins-spells}
 use Rattle.strings.proofs.spells.Statement.{statement}
 use Rattle.strings.proofs.spells.Tie as tie
 

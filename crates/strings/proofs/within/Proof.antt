@@ -8,7 +8,7 @@ use denote.Enum.Declared.{tag_of}
 use Rattle.format.specs.contracts.Extent.{the_type}
 use Rattle.format.specs.declared.Extent.{Extent}
 use Rattle.format.specs.String.{string, extent, text_within}
-use Rattle.format.specs.Laws.Strings.{string-fits, Judged, judged, long, cut, empty, whole}
+use Rattle.format.proofs.Laws.Strings.{string-fits, Judged, judged, long, cut, empty, whole}
 use Rattle.strings.proofs.within.Statement.{statement}
 use Rattle.strings.proofs.within.Tie as tie
 

@@ -3,7 +3,7 @@
 use borrow.Author.Rules.{rules}
 use mathlib.Core.Path.{◌∙◌, sym}
 use native.Mathlib.Omega.{arith}
-use Rattle.format.specs.Laws.Reads.{list-ends}
+use Rattle.format.proofs.Laws.Reads.{list-ends}
 use Rattle.tables.proofs.list_count.Statement.{statement}
 use Rattle.tables.proofs.list_count.Tie as tie
 

@@ -17,9 +17,9 @@ use Rattle.format.specs.declared.Extent.TheVariants.{Whole}
 use Rattle.format.specs.Segments.{valid_segments}
 use Rattle.format.specs.Fault.{no_fault}
 use Rattle.format.specs.Header.{path_field, path_part, path_of, path_fault}
-use Rattle.format.specs.Laws.Extents.{string-broken}
-use Rattle.format.specs.Laws.Paths.{path-not-whole, path-absolute, path-segments, path-kept}
-use Rattle.format.specs.Laws.Strings.{whole-string, whole_length, whole-is-whole, whole-within}
+use Rattle.format.proofs.Laws.Extents.{string-broken}
+use Rattle.format.proofs.Laws.Paths.{path-not-whole, path-absolute, path-segments, path-kept}
+use Rattle.format.proofs.Laws.Strings.{whole-string, whole_length, whole-is-whole, whole-within}
 use Rattle.strings.proofs.Tags.{tag-not-whole}
 use Rattle.tables.specs.Laws.{valid-header}
 use Rattle.tables.specs.Tables.{path_field_of, path_judged}

@@ -6,7 +6,7 @@ use mathlib.Core.Path.{◌≡◌, ◌∙◌, sym, ap}
 use native.Mathlib.Nat.{sub-zero}
 use native.Mathlib.Omega.{arith}
 use Rattle.format.specs.Header.{directories, path_fault, paths_fault}
-use Rattle.format.specs.Laws.Faults.{first-end, first-stop, first-go-on}
+use Rattle.format.proofs.Laws.Faults.{first-end, first-stop, first-go-on}
 use Rattle.tables.specs.Laws.{same-directories}
 use Rattle.tables.specs.declared.JudgedPath.{JudgedPath}
 use Rattle.tables.proofs.paths.Statement.{statement}

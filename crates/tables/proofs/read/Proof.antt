@@ -2,7 +2,7 @@
 -- inside.
 use borrow.Author.Rules.{rules}
 use native.Mathlib.Omega.{arith}
-use Rattle.format.specs.Laws.Header.{ValidHeader, header-valid}
+use Rattle.format.proofs.Laws.Header.{ValidHeader, header-valid}
 use Rattle.tables.proofs.read.Statement.{statement}
 use Rattle.tables.proofs.read.Tie as tie
 

@@ -7,7 +7,7 @@ use native.Mathlib.Omega.{arith}
 use borrow.Author.Rules.{rules}
 use borrow.Author.Tests.{ltb-true, ltb-false}
 use Rattle.format.specs.declared.Fault.{Fault}
-use Rattle.format.specs.Laws.Faults.{same_number}
+use Rattle.format.proofs.Laws.Faults.{same_number}
 use Rattle.catalogue.specs.Fields.{AreBytes, catalogue_in}
 use Rattle.catalogue.specs.Repeats.{catalogue_fault}
 use Rattle.catalogue.specs.Call.{write_is, allowed_buckets}

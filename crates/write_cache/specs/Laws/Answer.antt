@@ -8,7 +8,7 @@ use Rattle.std.proofs.Math.ListN.{drop}
 use Rattle.format.specs.Fault.{fault, no_fault, ◌or_else◌}
 use Rattle.format.specs.Bytes.{put}
 use Rattle.format.specs.declared.Fault.{Fault}
-use Rattle.format.specs.Laws.Faults.{same_number, broken-takes, or_else-first, or_else-next, or_else-none, broken-speaks, kept-passes, unless-broken}
+use Rattle.format.proofs.Laws.Faults.{same_number, broken-takes, or_else-first, or_else-next, or_else-none, broken-speaks, kept-passes, unless-broken}
 use Rattle.catalogue.specs.Fields.{AreBytes, path_count, icon_count_at, catalogue_in}
 use Rattle.catalogue.specs.Repeats.{catalogue_fault}
 use Rattle.catalogue.specs.Written.{written_size, written}

@@ -5,12 +5,12 @@ use Rattle.std.proofs.Math.Path.{ap}
 use Rattle.std.proofs.Math.ListN.{length, length-append}
 use Rattle.format.specs.Layout.{end_value}
 use Rattle.format.specs.Bytes.{bytes, joined, put}
-use Rattle.format.specs.Laws.Put.{put-over, put_then}
+use Rattle.format.proofs.Laws.Put.{put-over, put_then}
 use Rattle.catalogue.specs.Catalogue.{Catalogue}
 use Rattle.catalogue.specs.LaidOut.{first_in, table_bytes}
 use Rattle.catalogue.specs.Written.{lists_up_to, paths_up_to, names_up_to, records_begin, directories_begin, places, front, written}
-use Rattle.catalogue.specs.Laws.Front.{front_length}
-use Rattle.catalogue.specs.Laws.Tables.{table-length}
+use Rattle.catalogue.proofs.Laws.Front.{front_length}
+use Rattle.catalogue.proofs.Laws.Tables.{table-length}
 use Rattle.passes.specs.Passes.{BeginsOf}
 use Rattle.passes.specs.declared.sizes.Begins.{Begins}
 use Rattle.write_cache.specs.Appending.{Fits, Ready}

@@ -14,9 +14,9 @@ use Rattle.catalogue.specs.Fields.{name_length, image_count, icon_end, catalogue
 use Rattle.catalogue.specs.LaidOut.{Places, nth_icon, icon_bucket, list_bytes, text_and_zero}
 use Rattle.catalogue.specs.Written.{records_begin, lists_up_to, names_up_to, places, written_size, front}
 use Rattle.catalogue.specs.Append.{last_in, lead_field}
-use Rattle.catalogue.specs.Laws.Rows.{end-next}
-use Rattle.catalogue.specs.Laws.Written.{part-inside}
-use Rattle.catalogue.specs.Laws.Grows.{lead-below, front-grows}
+use Rattle.catalogue.proofs.Laws.Rows.{end-next}
+use Rattle.catalogue.proofs.Laws.Written.{part-inside}
+use Rattle.catalogue.proofs.Laws.Grows.{lead-below, front-grows}
 use Rattle.passes.specs.Passes.{Judged}
 use Rattle.passes.specs.Laws.Icons.{icon-is, name-size, list-size}
 use Rattle.passes.specs.Laws.Counts.{icons-are}

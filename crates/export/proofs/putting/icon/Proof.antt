@@ -8,12 +8,12 @@ use borrow.Author.Rules.{rules}
 use lib.ListN.{length, length-append}
 use Rattle.format.specs.Bytes.{bytes, put}
 use Rattle.format.specs.Record.{images}
-use Rattle.format.specs.Laws.Bytes.{bytes-length}
-use Rattle.format.specs.Laws.Put.{put_then}
+use Rattle.format.proofs.Laws.Bytes.{bytes-length}
+use Rattle.format.proofs.Laws.Put.{put_then}
 use Rattle.catalogue.specs.Catalogue.{icon_bytes}
 use Rattle.catalogue.specs.Fields.{AreBytes, part}
 use Rattle.catalogue.specs.Listed.{icon_of}
-use Rattle.catalogue.specs.Laws.Spans.{part_length}
+use Rattle.catalogue.proofs.Laws.Spans.{part_length}
 use Rattle.export.specs.declared.parts.IconParts.{IconParts}
 use Rattle.export.specs.Laws.Parts.{icon-inside, icon-length, icon-is}
 use Rattle.export.proofs.putting.icon.Statement.{statement}

@@ -3,7 +3,7 @@
 use Prim.Native.Nat.{◌+◌, ◌-◌, ◌≤◌}
 use mathlib.Core.Path.{◌≡◌, refl}
 use native.Mathlib.Omega.{arith}
-use Rattle.catalogue.specs.Laws.Pass.{Pass, pass-first, pass-room, pass-next, pass-done}
+use Rattle.catalogue.proofs.Laws.Pass.{Pass, pass-first, pass-room, pass-next, pass-done}
 use Rattle.export.specs.Parts.{icon_piece}
 use Rattle.export.specs.Laws.Pieces.{entry_kept}
 use Rattle.export.proofs.putting.icons.Statement.{statement}

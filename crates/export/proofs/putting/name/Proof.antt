@@ -4,10 +4,10 @@ use mathlib.Core.Path.{ap}
 use native.Mathlib.Omega.{arith}
 use borrow.Author.Rules.{rules}
 use Rattle.format.specs.Bytes.{bytes}
-use Rattle.format.specs.Laws.Bytes.{bytes-length}
-use Rattle.format.specs.Laws.Put.{put_then}
+use Rattle.format.proofs.Laws.Bytes.{bytes-length}
+use Rattle.format.proofs.Laws.Put.{put_then}
 use Rattle.catalogue.specs.Fields.{part}
-use Rattle.catalogue.specs.Laws.Spans.{part_length}
+use Rattle.catalogue.proofs.Laws.Spans.{part_length}
 use Rattle.export.proofs.putting.name.Statement.{statement}
 use Rattle.export.proofs.putting.name.Tie as tie
 

@@ -6,7 +6,7 @@ use native.Mathlib.Omega.{arith}
 use lib.ListN.{length}
 use Rattle.format.specs.Header.{directories}
 use Rattle.tables.specs.Laws.{same-directories}
-use Rattle.catalogue.specs.Laws.Pass.{Pass, pass-first, pass-room, pass-next, pass-done}
+use Rattle.catalogue.proofs.Laws.Pass.{Pass, pass-first, pass-room, pass-next, pass-done}
 use Rattle.export.specs.Parts.{path_piece}
 use Rattle.export.proofs.putting.paths.Statement.{statement}
 use Rattle.export.proofs.putting.paths.Tie as tie

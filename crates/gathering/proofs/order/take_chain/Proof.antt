@@ -5,7 +5,7 @@ use mathlib.Core.Path.{◌≡◌, refl, ◌∙◌}
 use native.Mathlib.Omega.{arith}
 use borrow.Author.Rules.{rules}
 use lib.ListN.{length}
-use Rattle.format.specs.Laws.Apart.{holds-few}
+use Rattle.format.proofs.Laws.Apart.{holds-few}
 use Rattle.tables.specs.Laws.{same-field}
 use Rattle.chains.specs.Walk.{Stands}
 use Rattle.gathering.specs.Order.{Gathered}

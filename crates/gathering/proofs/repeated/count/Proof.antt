@@ -5,7 +5,7 @@ use native.Mathlib.Omega.{arith}
 use borrow.Author.Rules.{rules}
 use mathlib.Core.Path.{◌∙◌}
 use lib.ListN.{length}
-use Rattle.format.specs.Laws.Apart.{holds-few}
+use Rattle.format.proofs.Laws.Apart.{holds-few}
 use Rattle.tables.specs.Laws.{same-field}
 use Rattle.chains.specs.Walk.{Stands}
 use Rattle.gathering.specs.Laws.Walks.{chain-holds, stands-first, stands-ended, stands-below, stands-next}

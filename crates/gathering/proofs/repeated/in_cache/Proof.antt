@@ -5,7 +5,7 @@ use mathlib.Core.Path.{◌≡◌, sym, ◌∙◌}
 use native.Mathlib.Numerals.{add-one}
 use native.Mathlib.Omega.{arith}
 use lib.ListN.{length}
-use Rattle.format.specs.Laws.Faults.{same_number}
+use Rattle.format.proofs.Laws.Faults.{same_number}
 use Rattle.tables.specs.Laws.{same-buckets}
 use Rattle.gathering.specs.Laws.Buckets.{PassedChains, chains-first, chains-next, chains-broken, chains-all}
 use Rattle.gathering.proofs.repeated.in_cache.Statement.{statement}

@@ -5,9 +5,9 @@ use mathlib.Core.Path.{◌≡◌, sym, ◌∙◌}
 use native.Mathlib.Omega.{arith}
 use borrow.Author.Rules.{rules}
 use Rattle.format.specs.Header.{header_fault}
-use Rattle.format.specs.Laws.Faults.{same_number}
+use Rattle.format.proofs.Laws.Faults.{same_number}
 use Rattle.tables.specs.Laws.{valid-header, same-buckets}
-use Rattle.listing.specs.Laws.Steps.{position-header, position-no-bucket, position-counts-too-far, position-valid, step-refuses, step-goes}
+use Rattle.listing.proofs.Laws.Steps.{position-header, position-no-bucket, position-counts-too-far, position-valid, step-refuses, step-goes}
 use Rattle.listing.proofs.Position.next.Statement.{statement}
 use Rattle.listing.proofs.Position.next.Tie as tie
 

@@ -16,8 +16,8 @@ use Rattle.tables.specs.Laws.{valid-header, same-buckets}
 use Rattle.chains.specs.declared.Walked.{Walked}
 use Rattle.chains.specs.Laws.{walked-ended, walked-broken}
 use Rattle.listing.specs.Listing.{onward}
-use Rattle.listing.specs.Laws.Steps.{onward-ends, onward-breaks}
-use Rattle.listing.specs.Laws.Reach.{reach-answers, reach-ends}
+use Rattle.listing.proofs.Laws.Steps.{onward-ends, onward-breaks}
+use Rattle.listing.proofs.Laws.Reach.{reach-answers, reach-ends}
 use Rattle.listing.proofs.Position.onward.Statement.{statement}
 use Rattle.listing.proofs.Position.onward.Tie as tie
 

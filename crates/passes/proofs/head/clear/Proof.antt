@@ -7,8 +7,8 @@ use native.Mathlib.Omega.{arith}
 use lib.ListN.{length}
 use Rattle.format.specs.Layout.{end_value}
 use Rattle.format.specs.Bytes.{bytes, joined, put}
-use Rattle.format.specs.Laws.Bytes.{bytes-length, joined_length}
-use Rattle.format.specs.Laws.Put.{put-nothing, put_next}
+use Rattle.format.proofs.Laws.Bytes.{bytes-length, joined_length}
+use Rattle.format.proofs.Laws.Put.{put-nothing, put_next}
 use Rattle.passes.proofs.head.clear.Statement.{statement}
 use Rattle.passes.proofs.head.clear.Tie as tie
 

@@ -8,8 +8,8 @@ use borrow.Author.Rules.{rules}
 use lib.ListN.{length, length-append}
 use Rattle.format.specs.Layout.{end_value}
 use Rattle.format.specs.Bytes.{bytes, joined, put}
-use Rattle.format.specs.Laws.Bytes.{bytes-length, joined_length}
-use Rattle.format.specs.Laws.Put.{put_then}
+use Rattle.format.proofs.Laws.Bytes.{bytes-length, joined_length}
+use Rattle.format.proofs.Laws.Put.{put_then}
 use Rattle.passes.proofs.head.tables.Statement.{statement}
 use Rattle.passes.proofs.head.tables.Tie as tie
 

@@ -6,8 +6,8 @@ use native.Mathlib.Omega.{arith}
 use borrow.Author.Rules.{rules}
 use lib.ListN.{length}
 use Rattle.format.specs.Bytes.{bytes, joined}
-use Rattle.format.specs.Laws.Bytes.{bytes-length, joined_length}
-use Rattle.format.specs.Laws.Put.{put_then}
+use Rattle.format.proofs.Laws.Bytes.{bytes-length, joined_length}
+use Rattle.format.proofs.Laws.Put.{put_then}
 use Rattle.catalogue.specs.Fields.{catalogue_in}
 use Rattle.catalogue.specs.Written.{paths_up_to}
 use Rattle.passes.specs.Laws.Counts.{few-paths}

@@ -9,12 +9,12 @@ use borrow.Author.Rules.{rules}
 use lib.ListN.{length, length-append}
 use Rattle.format.specs.Bytes.{bytes, joined}
 use Rattle.format.specs.Bytes as written
-use Rattle.format.specs.Laws.Bytes.{bytes-length, joined_length}
+use Rattle.format.proofs.Laws.Bytes.{bytes-length, joined_length}
 use Rattle.catalogue.specs.Fields.{path_length, path_end, catalogue_in}
 use Rattle.catalogue.specs.LaidOut.{nth_path, text_and_zero}
 use Rattle.catalogue.specs.Written.{paths_up_to}
-use Rattle.catalogue.specs.Laws.Written.{part-inside}
-use Rattle.catalogue.specs.Laws.Pass.{Pass, pass-first, pass-room, pass-next, pass-done}
+use Rattle.catalogue.proofs.Laws.Written.{part-inside}
+use Rattle.catalogue.proofs.Laws.Pass.{Pass, pass-first, pass-room, pass-next, pass-done}
 use Rattle.passes.specs.Laws.Paths.{path-ends, path-size}
 use Rattle.passes.proofs.putting.entries.Statement.{statement}
 use Rattle.passes.proofs.putting.entries.Tie as tie

@@ -7,7 +7,7 @@ use lib.ListN.{length}
 use Rattle.format.specs.Bytes.{put}
 use Rattle.catalogue.specs.Fields.{icon_end, image_count, catalogue_in}
 use Rattle.catalogue.specs.LaidOut.{nth_icon, list_bytes}
-use Rattle.catalogue.specs.Laws.Pass.{Pass, pass-first, pass-room, pass-next, pass-done}
+use Rattle.catalogue.proofs.Laws.Pass.{Pass, pass-first, pass-room, pass-next, pass-done}
 use Rattle.passes.specs.Laws.Icons.{icon-ends, list-is, list-size}
 use Rattle.passes.proofs.putting.lists.Statement.{statement}
 use Rattle.passes.proofs.putting.lists.Tie as tie

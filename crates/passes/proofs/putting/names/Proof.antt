@@ -7,7 +7,7 @@ use lib.ListN.{length}
 use Rattle.format.specs.Bytes.{put}
 use Rattle.catalogue.specs.Fields.{icon_end, name_length, catalogue_in}
 use Rattle.catalogue.specs.LaidOut.{nth_icon, text_and_zero}
-use Rattle.catalogue.specs.Laws.Pass.{Pass, pass-first, pass-room, pass-next, pass-done}
+use Rattle.catalogue.proofs.Laws.Pass.{Pass, pass-first, pass-room, pass-next, pass-done}
 use Rattle.passes.specs.Laws.Icons.{icon-ends, name-is, name-size}
 use Rattle.passes.proofs.putting.names.Statement.{statement}
 use Rattle.passes.proofs.putting.names.Tie as tie

@@ -7,7 +7,7 @@ use lib.ListN.{length}
 use Rattle.format.specs.Bytes.{put}
 use Rattle.catalogue.specs.Fields.{path_length, path_end, catalogue_in}
 use Rattle.catalogue.specs.LaidOut.{nth_path, text_and_zero}
-use Rattle.catalogue.specs.Laws.Pass.{Pass, pass-first, pass-room, pass-next, pass-done}
+use Rattle.catalogue.proofs.Laws.Pass.{Pass, pass-first, pass-room, pass-next, pass-done}
 use Rattle.passes.specs.Laws.Paths.{path-ends, path-is, path-size}
 use Rattle.passes.proofs.putting.paths.Statement.{statement}
 use Rattle.passes.proofs.putting.paths.Tie as tie

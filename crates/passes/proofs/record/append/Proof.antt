@@ -7,8 +7,8 @@ use borrow.Author.Rules.{rules}
 use lib.ListN.{length, length-append}
 use Rattle.format.specs.Layout.{end_value}
 use Rattle.format.specs.Bytes.{bytes, put}
-use Rattle.format.specs.Laws.Bytes.{bytes-length}
-use Rattle.format.specs.Laws.Put.{put_then}
+use Rattle.format.proofs.Laws.Bytes.{bytes-length}
+use Rattle.format.proofs.Laws.Put.{put_then}
 use Rattle.passes.proofs.record.append.Statement.{statement}
 use Rattle.passes.proofs.record.append.Tie as tie
 

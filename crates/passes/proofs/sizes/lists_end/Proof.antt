@@ -10,8 +10,8 @@ use Rattle.catalogue.specs.Row.{row_end}
 use Rattle.catalogue.specs.Fields.{image_count, icon_end, catalogue_in}
 use Rattle.catalogue.specs.LaidOut.{nth_icon, list_bytes}
 use Rattle.catalogue.specs.Written.{lists_up_to}
-use Rattle.catalogue.specs.Laws.Rows.{end-next}
-use Rattle.catalogue.specs.Laws.Written.{part-inside}
+use Rattle.catalogue.proofs.Laws.Rows.{end-next}
+use Rattle.catalogue.proofs.Laws.Written.{part-inside}
 use Rattle.passes.specs.Laws.Icons.{icon-ends, list-size}
 use Rattle.passes.proofs.sizes.lists_end.Statement.{statement}
 use Rattle.passes.proofs.sizes.lists_end.Tie as tie

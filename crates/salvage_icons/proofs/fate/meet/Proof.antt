@@ -7,7 +7,7 @@ use borrow.Author.Tests.{not-true, not-false}
 use lib.ListN.{drop}
 use Rattle.format.specs.String.{string}
 use Rattle.format.specs.Record.{name_of, images_at, name_fault, valid_image_list}
-use Rattle.format.specs.Laws.Faults.{same_number}
+use Rattle.format.proofs.Laws.Faults.{same_number}
 use Rattle.salvage_icons.specs.Laws.Fate.{meets-misnamed, meets-unlisted, meets-equal, meets-kept}
 use Rattle.salvage_icons.proofs.fate.meet.Statement.{statement}
 use Rattle.salvage_icons.proofs.fate.meet.Tie as tie

@@ -6,9 +6,9 @@ use native.Mathlib.Omega.{arith}
 use borrow.Author.Rules.{rules}
 use lib.ListN.{drop}
 use Rattle.format.specs.String.{extent, is_whole}
-use Rattle.format.specs.Laws.Bytes.{bytes-length}
+use Rattle.format.proofs.Laws.Bytes.{bytes-length}
 use Rattle.filling.specs.Laws.{puts-more}
-use Rattle.catalogue.specs.Laws.Spans.{part_length}
+use Rattle.catalogue.proofs.Laws.Spans.{part_length}
 use Rattle.salvage_icons.specs.Laws.Icon.{Read, icon-is, name-inside, name-short}
 use Rattle.salvage_icons.proofs.icon.put.Statement.{statement}
 use Rattle.salvage_icons.proofs.icon.put.Tie as tie

@@ -5,7 +5,7 @@ use mathlib.Core.Path.{◌≡◌, ◌∙◌}
 use native.Mathlib.Omega.{arith}
 use lib.ListN.{length}
 use Rattle.format.specs.Record.{images}
-use Rattle.format.specs.Laws.Bytes.{bytes-length}
+use Rattle.format.proofs.Laws.Bytes.{bytes-length}
 use Rattle.tables.specs.Laws.{valid-header, same-directories}
 use Rattle.salvage_icons.specs.Laws.Images.{Scan, scan, PutTo, put-none, put-stays, put-goes, put_all}
 use Rattle.salvage_icons.proofs.images.put.Statement.{statement}

@@ -2,7 +2,7 @@
 -- the other.
 use native.Mathlib.Omega.{arith}
 use borrow.Author.Rules.{rules}
-use Rattle.format.specs.Laws.Bytes.{bytes-length}
+use Rattle.format.proofs.Laws.Bytes.{bytes-length}
 use Rattle.filling.specs.Laws.{puts-more}
 use Rattle.salvage_icons.proofs.images.put_image.Statement.{statement}
 use Rattle.salvage_icons.proofs.images.put_image.Tie as tie

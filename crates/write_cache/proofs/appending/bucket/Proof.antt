@@ -6,7 +6,7 @@ use borrow.Author.Rules.{rules}
 use lib.ListN.{take, drop}
 use lib.Seq.{take_all}
 use Rattle.format.specs.String.{string, hash}
-use Rattle.format.specs.Laws.Texts.{allowed-tells}
+use Rattle.format.proofs.Laws.Texts.{allowed-tells}
 use Rattle.catalogue.specs.Fields.{name_length, name_text}
 use Rattle.write_cache.proofs.appending.bucket.Statement.{statement}
 use Rattle.write_cache.proofs.appending.bucket.Tie as tie
