@@ -18,23 +18,23 @@ use Rattle.entries.proofs.icon.Statement.{statement}
 use Rattle.entries.proofs.icon.Tie as tie
 
 returns : tie.Need-returns-then-not-valid_name_length
-returns c = refuses _ (name-length-refused _ _ _ (sym c.valid_name_length.ensures ∙ not-true _ c.if-not-valid_name_length.true)) c.refused.ensures
+returns c = refuses _ (name-length-refused _ _ _ (sym c.valid_name_length.ensures ∙ not-true _ c.if-not-valid_name_length.true-raw)) c.refused.ensures
 
 -- the length of the name is there and valid
 module _ (c : tie.Else-not-valid_name_length) where
   sized : let a = c.args in valid_name_length a.catalogue.now a.at ≡ true
-  sized = sym c.valid_name_length.ensures ∙ not-false _ c.if-not-valid_name_length.false
+  sized = sym c.valid_name_length.ensures ∙ not-false _ c.if-not-valid_name_length.false-raw
 
   sized_inside : let a = c.args in a.at < length a.catalogue.now
   sized_inside = let a = c.args in name-length-inside a.n a.catalogue.now a.at sized
 
 returns-2 : tie.Need-returns-then-not-valid_name_text
 returns-2 c =
-    refuses _ (name-refused _ _ _ (sized c.before.before.before) (sym c.valid_name_text.ensures ∙ not-true _ c.if-not-valid_name_text.true)) c.refused-then-not-valid_name_text.ensures
+    refuses _ (name-refused _ _ _ (sized c.before.before.before) (sym c.valid_name_text.ensures ∙ not-true _ c.if-not-valid_name_text.true-raw)) c.refused-then-not-valid_name_text.ensures
 
 -- so is the name, and its images are counted behind it
 named : (c : tie.Else-not-valid_name_text) → let a = c.args in valid_name_text a.catalogue.now a.at ≡ true
-named c = sym c.valid_name_text.ensures ∙ not-false _ c.if-not-valid_name_text.false
+named c = sym c.valid_name_text.ensures ∙ not-false _ c.if-not-valid_name_text.false-raw
 
 module _ (c : tie.After-byte) where
   count_at : let a = c.args in a.at + 1 + c.byte.result ≡ image_count_at a.catalogue.now a.at
@@ -51,13 +51,13 @@ counted c =
 
 returns-3 : tie.Need-returns-then-not-valid_image_count
 returns-3 c =
-    let wrong = sym (counted c.before.before) ∙ not-true _ c.if-not-valid_image_count.true in
+    let wrong = sym (counted c.before.before) ∙ not-true _ c.if-not-valid_image_count.true-raw in
     refuses _ (count-refused _ _ _ (sized c.before.before.before.before.before.before) (named c.before.before.before.before) wrong) (c.refused-then-not-valid_image_count.ensures ∙ ap (λ p. judged (fault 18 p) 0) (count_at c.before.before.before))
 
 -- and is valid
 module _ (c : tie.Else-not-valid_image_count) where
   few : valid_image_count c.args.catalogue.now c.args.at ≡ true
-  few = sym (counted c.before) ∙ not-false _ c.if-not-valid_image_count.false
+  few = sym (counted c.before) ∙ not-false _ c.if-not-valid_image_count.false-raw
 
   few-inside : c.args.at + 1 + c.byte.result + 2 ≤ length c.args.catalogue.now
   few-inside =

@@ -30,7 +30,7 @@ loop-holds c = (c.requires, refl)
 returns : tie.Need-returns-then-not-valid_image invariant-loop decreases-loop
 returns c =
     let a = c.args in
-    let wrong = sym c.valid_image.ensures ∙ not-true _ c.if-not-valid_image.true in
+    let wrong = sym c.valid_image.ensures ∙ not-true _ c.if-not-valid_image.true-raw in
     let told = refuses (image_end c.loop-left.here) (unless-broken _ 18 c.loop-left.here wrong) c.refused.ensures in
     judged-stops (image_field_fault a.n a.catalogue.now) image_end c.loop-left.left c.loop-left.here (image_end c.loop-left.here) c.loop-left-test.true told
     (λ z. omega (arith, ap (λ (a : Judged). a.fault.number) c.refused.ensures))
@@ -39,7 +39,7 @@ returns c =
 -- an image that is allowed
 module _ (c : tie.Else-not-valid_image invariant-loop decreases-loop) where
   valid : let a = c.args in valid_image_field a.n a.catalogue.now c.loop-left.here ≡ true
-  valid = sym c.valid_image.ensures ∙ not-false _ c.if-not-valid_image.false
+  valid = sym c.valid_image.ensures ∙ not-false _ c.if-not-valid_image.false-raw
 
   there : c.loop-left.here + 8 ≤ length c.args.catalogue.now
   there = leb-true _ _ ((and-eq-true_iff _ _).0 valid).0

@@ -16,7 +16,7 @@ inside c = rw c.directory_part-part.ensures (part-inside _ _)
 add-end : tie.Need-overflow_add-end
 add-end c = omega (arith, inside c.before)
 
-part-result-end : tie.Need-slice-bounds-result-end
+part-result-end : tie.Need-slice_bounds-result-end
 part-result-end c = omega (arith, inside c.before)
 
 returns : tie.Need-returns

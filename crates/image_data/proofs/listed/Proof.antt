@@ -28,7 +28,7 @@ real c z = c.if-list-eq0.false (leads c.before ∙ z)
 
 -- the list keeps rule 22
 valid : (c : tie.Else-not-valid_entries) → let a = c.args in valid_entries a.cache.now (be 4 a.cache.now a.field) a.size ≡ true
-valid c = rw (leads c.before.before.before) at (sym c.valid_entries.ensures ∙ not-false _ c.if-not-valid_entries.false)
+valid c = rw (leads c.before.before.before) at (sym c.valid_entries.ensures ∙ not-false _ c.if-not-valid_entries.false-raw)
 
 -- its count, and the entry if it is below
 count : (c : tie.After-u32_at)
@@ -50,7 +50,7 @@ returns c = same_way (entry_absent _ _ _ _ (sym (leads c.before.before) ∙ c.if
 
 returns-2 : tie.Need-returns-then-not-valid_entries
 returns-2 c =
-    let broken = rw (leads c.before.before.before.before) at (sym c.valid_entries.ensures ∙ not-true _ c.if-not-valid_entries.true) in
+    let broken = rw (leads c.before.before.before.before) at (sym c.valid_entries.ensures ∙ not-true _ c.if-not-valid_entries.true-raw) in
     same_way (entry-broken _ _ _ _ (real c.before.before.before) broken) (c.stopped-then-not-valid_entries.ensures _)
 
 u32-at-requires-2 : tie.Need-u32_at-requires

@@ -22,7 +22,7 @@ real c z = c.if-at-eq0.false (leads c.before ∙ z)
 
 -- the list keeps rule 22, and so lies inside
 kept : (c : tie.Else-not-valid_entries) → let a = c.args in valid_entries a.cache.now c.u32_at-at.result 8 ≡ true
-kept c = sym c.valid_entries.ensures ∙ not-false _ c.if-not-valid_entries.false
+kept c = sym c.valid_entries.ensures ∙ not-false _ c.if-not-valid_entries.false-raw
 
 ends : (c : tie.Else-not-valid_entries)
     → let a = c.args in
@@ -36,7 +36,7 @@ returns c = c.none.ensures ∙ sym (part-absent _ (sym (leads c.before.before) �
 returns-2 : tie.Need-returns-then-not-valid_entries
 unfolding names_fault
 returns-2 c =
-    c.broken.ensures ∙ sym (part-outside (real c.before.before.before) _ _ _ (rw (leads c.before.before.before.before) at (sym c.valid_entries.ensures ∙ not-true _ c.if-not-valid_entries.true)))
+    c.broken.ensures ∙ sym (part-outside (real c.before.before.before) _ _ _ (rw (leads c.before.before.before.before) at (sym c.valid_entries.ensures ∙ not-true _ c.if-not-valid_entries.true-raw)))
 
 returns-3 : tie.Need-returns
 unfolding names_fault

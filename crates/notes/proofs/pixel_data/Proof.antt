@@ -22,7 +22,7 @@ real c z = c.if-at-eq0.false (leads c.before ∙ z)
 
 -- the pixel data keeps rule 22
 kept : (c : tie.Else-not-pixels_inside) → let a = c.args in pixel_data_inside a.cache.now c.u32_at-at.result ≡ true
-kept c = sym c.pixels_inside.ensures ∙ not-false _ c.if-not-pixels_inside.false
+kept c = sym c.pixels_inside.ensures ∙ not-false _ c.if-not-pixels_inside.false-raw
 
 head-inside : (c : tie.Else-not-pixels_inside) → let a = c.args in c.u32_at-at.result + 8 ≤ length a.cache.now
 head-inside c = leb-true _ _ ((and-eq-true_iff _ _).0 (kept c)).0
@@ -34,7 +34,7 @@ returns c = c.none.ensures ∙ sym (part-absent _ (sym (leads c.before.before) �
 returns-2 : tie.Need-returns-then-not-pixels_inside
 unfolding pixel_data_fault
 returns-2 c =
-    c.broken.ensures ∙ sym (part-outside (real c.before.before.before) _ _ _ (rw (leads c.before.before.before.before) at (sym c.pixels_inside.ensures ∙ not-true _ c.if-not-pixels_inside.true)))
+    c.broken.ensures ∙ sym (part-outside (real c.before.before.before) _ _ _ (rw (leads c.before.before.before.before) at (sym c.pixels_inside.ensures ∙ not-true _ c.if-not-pixels_inside.true-raw)))
 
 returns-3 : tie.Need-returns-then-u32_at-ne0
 unfolding pixel_data_fault

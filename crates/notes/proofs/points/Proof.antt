@@ -24,12 +24,12 @@ returns c = c.none.ensures ∙ sym (part-absent _ (sym (leads c.before.before) �
 returns-2 : tie.Need-returns-then-not-valid_entries
 unfolding points_fault
 returns-2 c =
-    c.broken.ensures ∙ sym (part-there _ (real c.before.before.before) ∙ unless-broken _ _ _ (rw (leads c.before.before.before.before) at (sym c.valid_entries.ensures ∙ not-true _ c.if-not-valid_entries.true)))
+    c.broken.ensures ∙ sym (part-there _ (real c.before.before.before) ∙ unless-broken _ _ _ (rw (leads c.before.before.before.before) at (sym c.valid_entries.ensures ∙ not-true _ c.if-not-valid_entries.true-raw)))
 
 returns-3 : tie.Need-returns
 unfolding points_fault
 returns-3 c =
-    c.none-2.ensures ∙ sym (part-there _ (real c.before.before.before) ∙ unless-kept _ _ _ (rw (leads c.before.before.before.before) at (sym c.valid_entries.ensures ∙ not-false _ c.if-not-valid_entries.false)))
+    c.none-2.ensures ∙ sym (part-there _ (real c.before.before.before) ∙ unless-kept _ _ _ (rw (leads c.before.before.before.before) at (sym c.valid_entries.ensures ∙ not-false _ c.if-not-valid_entries.false-raw)))
 
 pub points_spec : {M : Type 1} → statement M
 points_spec =

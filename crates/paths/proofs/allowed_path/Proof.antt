@@ -17,11 +17,11 @@ within-is c = c.within.ensures _ _ refl c.read_path-read.ensures.0
 
 returns : tie.Need-returns-then-not-within
 unfolding allowed_path
-returns c = rw (sym (within-is c.before) ∙ not-true _ c.if-not-within.true)
+returns c = rw (sym (within-is c.before) ∙ not-true _ c.if-not-within.true-raw)
 
 -- a text within the limit
 told : (c : tie.Else-not-within) → text_within 1023 c.args.path.now ≡ true
-told c = sym (within-is c.before) ∙ not-false _ c.if-not-within.false
+told c = sym (within-is c.before) ∙ not-false _ c.if-not-within.false-raw
 
 text : (c : tie.Else-not-within) → TextWithin 1023 c.args.path.now
 text c = text-tells 1023 c.args.path.now (told c)

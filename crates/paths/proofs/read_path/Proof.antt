@@ -13,6 +13,7 @@ use Rattle.format.proofs.Laws.Segments.{none_free}
 use Rattle.paths.proofs.Reading.{Reading, at-end, next-byte, next-slash, same-reading}
 use Rattle.paths.proofs.read_path.Statement.{statement}
 use Rattle.paths.proofs.read_path.Tie as tie
+use Rattle.paths.proofs.read_path.Lts as lts
 
 abbrev invariant-loop : tie.invariant-loop-i
 invariant-loop part valid₀ start₀ i₀ valid start i = Reading part valid start i
@@ -50,10 +51,11 @@ returns-2 c =
 loop-again : tie.Need-loop-i-preserved invariant-loop decreases-loop
 loop-again c =
     let nz = c.if-byte-eq0.false in
-    ⊎_elim
-    (λ w. same-reading w.2 w.3 (next-slash c.loop-i.invariant (omega arith) (omega arith) nz w.0.true w.1.ensures))
-    (λ w. same-reading w.1 w.2 (next-byte c.loop-i.invariant (omega arith) (omega arith) nz w.0.left))
-    c.if-byte-eq47.branch
+    elim c.if-byte-eq47.branch [
+      lts.then-byte-eq47 w ↦
+          same-reading w.valid-is w.start-is (next-slash c.loop-i.invariant (omega arith) (omega arith) nz w.if-byte-eq47.true w.valid_to-valid.ensures)
+    | lts.else-byte-eq47 w ↦ same-reading w.valid-is w.start-is (next-byte c.loop-i.invariant (omega arith) (omega arith) nz w.if-byte-eq47.false)
+    ]
 
 returns-3 : tie.Need-returns invariant-loop decreases-loop
 returns-3 c =

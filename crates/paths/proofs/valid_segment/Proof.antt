@@ -29,16 +29,16 @@ tested (a ∷ b ∷ []) = simp (and-true, and-false)
 tested (a ∷ b ∷ c ∷ p) = simp and-false
 
 returns : tie.Need-returns-in-0
-returns c = rw (tested, c.in-0.is.keys1)
+returns c = rw (tested, c.in-0.is)
 
 returns-2 : tie.Need-returns-in-1
-returns-2 c = rw (tested, c.in-1.is.keys2)
+returns-2 c = rw (tested, c.in-1.is)
 
 returns-3 : tie.Need-returns-then-segment-ne46
-returns-3 c = rw (tested, c.in-2.is.keys3, ne_eqb _ _ c.if-segment-ne46.true)
+returns-3 c = rw (tested, c.in-2.is, ne_eqb _ _ c.if-segment-ne46.true)
 
 returns-4 : tie.Need-returns-else-segment-ne46
-returns-4 c = rw (tested, c.in-2.is.keys3, eq-eqb _ _ c.if-segment-ne46.false)
+returns-4 c = rw (tested, c.in-2.is, eq-eqb _ _ c.if-segment-ne46.false)
 
 returns-5 : tie.Need-returns-in_default
 returns-5 c =

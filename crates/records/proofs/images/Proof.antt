@@ -21,12 +21,12 @@ valid-image-requires c κs =
 
 returns : tie.Need-returns-then-not-valid_image invariant-loop decreases-loop
 returns c =
-    let broken = unless-broken _ 11 _ (sym c.valid_image.ensures ∙ not-true _ c.if-not-valid_image.true) in
+    let broken = unless-broken _ 11 _ (sym c.valid_image.ensures ∙ not-true _ c.if-not-valid_image.true-raw) in
     sym (first-stop _ _ _ _ (omega arith) (rw broken (λ z. omega arith)) ∙ broken) ∙ c.loop-left.invariant.1
 
 loop-again : tie.Need-loop-left-preserved invariant-loop decreases-loop
 loop-again c =
-    let kept = sym c.valid_image.ensures ∙ not-false _ c.if-not-valid_image.false in
+    let kept = sym c.valid_image.ensures ∙ not-false _ c.if-not-valid_image.false-raw in
     (omega arith, sym (first-go-on _ _ _ _ (c.loop-left.left - 1) (omega arith) (rw kept)) ∙ c.loop-left.invariant.1)
 
 pub images_spec : {M : Type 1} → statement M

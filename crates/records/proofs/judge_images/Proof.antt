@@ -21,10 +21,10 @@ ends-inside : (c : tie.Else-not-valid_image_list)
     → let s = c.args.cache.now in
     let at = c.u32_at-at.result in
     at + 4 + 8 * be 4 s at ≤ length s
-ends-inside c = list-ends _ _ 8 ((and-eq-true_iff _ _).0 (sym c.valid_image_list.ensures ∙ not-false _ c.if-not-valid_image_list.false)).0
+ends-inside c = list-ends _ _ 8 ((and-eq-true_iff _ _).0 (sym c.valid_image_list.ensures ∙ not-false _ c.if-not-valid_image_list.false-raw)).0
 
 returns : tie.Need-returns-then-not-valid_image_list
-returns c = sym (list-broken _ _ (sym (listed c.before) ∙ not-true _ c.if-not-valid_image_list.true))
+returns c = sym (list-broken _ _ (sym (listed c.before) ∙ not-true _ c.if-not-valid_image_list.true-raw))
 
 u32-at-requires-2 : tie.Need-u32_at-m-requires
 u32-at-requires-2 c κs = omega (arith, ends-inside c)
@@ -40,7 +40,7 @@ images-requires c κs =
 returns-2 : tie.Need-returns
 returns-2 c =
     c.images.ensures ∙ rw (c.u32_at-m.ensures, c.u32_at-at.ensures)
-    (sym (list-kept _ _ (sym (listed c.before.before.before) ∙ not-false _ c.if-not-valid_image_list.false)))
+    (sym (list-kept _ _ (sym (listed c.before.before.before) ∙ not-false _ c.if-not-valid_image_list.false-raw)))
 
 pub judge_images_spec : {M : Type 1} → statement M
 judge_images_spec =

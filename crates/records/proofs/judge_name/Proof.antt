@@ -45,7 +45,7 @@ returns-2 c =
     let broken = ap is_whole (sym (named c.before.before)) ∙ tag-not-whole _ c.in_default.in_default-own.keys2 in
     c.judge.ensures ∙ ap (λ e. string_fault e 8 (c.args.«record» + 4)) (named c.before.before) ∙ sym (name-unread _ _ _ broken)
 
-rem-if2 : tie.Need-nonzero-rem-if2
+rem-if2 : tie.Need-nonzero_rem-name
 rem-if2 c = rw (counted c) (header-valid _ c.requires.0.header).buckets-some
 
 returns-3 : tie.Need-returns-then-name-t

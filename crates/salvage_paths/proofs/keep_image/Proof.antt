@@ -15,7 +15,7 @@ use Rattle.salvage_paths.proofs.keep_image.Tie as tie
 
 -- the image keeps rule 11
 valid : (c : tie.Else-not-valid_image) → let a = c.args in valid_image a.cache.now a.at ≡ true
-valid c = sym c.valid_image.ensures ∙ not-false _ c.if-not-valid_image.false
+valid c = sym c.valid_image.ensures ∙ not-false _ c.if-not-valid_image.false-raw
 
 -- there are directories
 some : (c : tie.Else-t-eq0) → let a = c.args in directories a.cache.now ≡ 0 → ⊥
@@ -26,7 +26,7 @@ valid-image-requires c κs =
     ((omega (arith, valid-header c.requires.0.0), c.requires.0.1), c.requires.0.2)
 
 returns : tie.Need-returns-then-not-valid_image
-returns c = bad-goes _ _ (sym c.valid_image.ensures ∙ not-true _ c.if-not-valid_image.true)
+returns c = bad-goes _ _ (sym c.valid_image.ensures ∙ not-true _ c.if-not-valid_image.true-raw)
 
 returns-2 : tie.Need-returns-then-t-eq0
 returns-2 c =

@@ -35,7 +35,7 @@ buffer c = c.args.cache.now
 past-3 : (c : tie.Else-not-valid_version) → header_fault (buffer c) ≡ (unless (valid_directories (buffer c)) 4 8 or_else unless (valid_buckets (buffer c)) 5 4)
 unfolding header_fault ◌or_else◌
 past-3 c =
-    simp (le-leb _ _ c.if-cache-lt12.false, le-leb _ _ c.if-cache-gt16777216.false, sym c.valid_version.ensures ∙ not-false _ c.if-not-valid_version.false)
+    simp (le-leb _ _ c.if-cache-lt12.false, le-leb _ _ c.if-cache-gt16777216.false, sym c.valid_version.ensures ∙ not-false _ c.if-not-valid_version.false-raw)
 
 past-4 : (c : tie.Else-list_count-gt65535) → let s = buffer c.before.before in header_fault s ≡ unless (valid_buckets s) 5 4
 unfolding ◌or_else◌
@@ -52,7 +52,7 @@ returns-2 c = simp (le-leb _ _ c.if-cache-lt12.false, lt-leb _ _ c.if-cache-gt16
 returns-3 : tie.Need-returns-then-not-valid_version
 unfolding header_fault ◌or_else◌
 returns-3 c =
-    simp (le-leb _ _ c.if-cache-lt12.false, le-leb _ _ c.if-cache-gt16777216.false, sym c.valid_version.ensures ∙ not-true _ c.if-not-valid_version.true)
+    simp (le-leb _ _ c.if-cache-lt12.false, le-leb _ _ c.if-cache-gt16777216.false, sym c.valid_version.ensures ∙ not-true _ c.if-not-valid_version.true-raw)
 
 returns-4 : tie.Need-returns-then-list_count-gt65535
 unfolding ◌or_else◌

@@ -76,13 +76,13 @@ returns c =
 returns-2 : tie.Need-returns-then-not-valid_segments
 returns-2 c =
     let no_slash = rw (part-is c.before.before.before.before.before.before) at c.if-part-eq47.false in
-    let wrong = sym (segments-are c.before.before.before) ∙ not-true _ c.if-not-valid_segments.true in
+    let wrong = sym (segments-are c.before.before.before) ∙ not-true _ c.if-not-valid_segments.true-raw in
     c.bad_path-then-not-valid_segments.ensures ∙ rw (field_is c.before.before.before.before.before.before.before.before) (judged-broken _ _ (path-segments _ _ (whole c.before.before.before) no_slash wrong) (λ z. omega arith))
 
 returns-3 : tie.Need-returns-else-not-valid_segments
 returns-3 c =
     let no_slash = rw (part-is c.before.before.before.before.before) at c.if-part-eq47.false in
-    let all_valid = sym (segments-are c.before.before) ∙ not-false _ c.if-not-valid_segments.false in
+    let all_valid = sym (segments-are c.before.before) ∙ not-false _ c.if-not-valid_segments.false-raw in
     judged-kept _ _ (path-kept _ _ (whole c.before.before) no_slash all_valid) (start_is c.before.before.before.before.before.before) (whole_length 1023 _ _ (told c.before.before))
 
 returns-4 : tie.Need-returns-in_default

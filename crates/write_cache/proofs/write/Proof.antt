@@ -46,7 +46,7 @@ returns-2 c =
 
 -- so is the number of buckets
 allowed : (c : tie.Else-buckets-gt4096) → allowed_buckets c.args.buckets ≡ true
-allowed c = buckets-allowed c.if-buckets-eq0.false (ltb-false _ _ c.if-buckets-gt4096.false)
+allowed c = buckets-allowed c.if-buckets-eq0.false (ltb-false _ _ c.if-buckets-gt4096.false-raw)
 
 returns-3 : tie.Need-returns-then-cache-length
 returns-3 c =
@@ -60,10 +60,10 @@ module _ (c : tie.Else-length-gt16777216) where
   fits : let a = c.args in
       Fits (catalogue_in a.catalogue.now) a.buckets a.cache.now
   fits =
-      let short : c.size-length.result ≤ 16777216 = ltb-false _ _ c.if-length-gt16777216.false in
+      let short : c.size-length.result ≤ 16777216 = ltb-false _ _ c.if-length-gt16777216.false-raw in
       record {
         some = omega (arith, c.if-buckets-eq0.false);
-        few = ltb-false _ _ c.if-buckets-gt4096.false;
+        few = ltb-false _ _ c.if-buckets-gt4096.false-raw;
         room = omega (arith, c.size-length.ensures, c.if-cache-length.false);
         short = omega (arith, c.size-length.ensures);
       }
@@ -84,7 +84,7 @@ write_spec =
     returns
     (λ c κs. search rules)
     returns-2
-    (λ c κs. (by_parts c.before.before, ltb-false _ _ c.if-buckets-gt4096.false))
+    (λ c κs. (by_parts c.before.before, ltb-false _ _ c.if-buckets-gt4096.false-raw))
     (λ c κs. search rules)
     returns-3
     (λ c κs. (by_parts c.before.before.before.before.before.before, fits c.before))

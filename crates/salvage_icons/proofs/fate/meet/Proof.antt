@@ -30,7 +30,7 @@ listed c = rw (← c.u32_at-list.ensures) c.valid_image_list.ensures
 
 returns-2 : tie.Need-returns-then-not-valid_image_list
 returns-2 c ts known =
-    meets-unlisted _ _ _ (named c.before.before.before) known (sym (listed c.before) ∙ not-true _ c.if-not-valid_image_list.true)
+    meets-unlisted _ _ _ (named c.before.before.before) known (sym (listed c.before) ∙ not-true _ c.if-not-valid_image_list.true-raw)
 
 -- the name whose offset is asked for
 read : (c : tie.After-u32_at-name) →
@@ -40,11 +40,11 @@ read c = ap (λ p. string (drop p c.args.cache.now)) c.u32_at-name.ensures
 
 returns-3 : tie.Need-returns-then-met
 returns-3 c ts known =
-    meets-equal _ _ _ (named c.before.before.before.before.before.before.before.before.before) (sym (listed c.before.before.before.before.before.before.before) ∙ not-false _ c.if-not-valid_image_list.false) (read c.before.before.before.before.before) (rw c.if-met.true at (c.met.ensures ts known))
+    meets-equal _ _ _ (named c.before.before.before.before.before.before.before.before.before) (sym (listed c.before.before.before.before.before.before.before) ∙ not-false _ c.if-not-valid_image_list.false-raw) (read c.before.before.before.before.before) (rw c.if-met.true at (c.met.ensures ts known))
 
 returns-4 : tie.Need-returns
 returns-4 c ts known =
-    meets-kept _ _ _ (named c.before.before.before.before.before.before.before.before.before) (sym (listed c.before.before.before.before.before.before.before) ∙ not-false _ c.if-not-valid_image_list.false) (read c.before.before.before.before.before) (rw c.if-met.false at (c.met.ensures ts known))
+    meets-kept _ _ _ (named c.before.before.before.before.before.before.before.before.before) (sym (listed c.before.before.before.before.before.before.before) ∙ not-false _ c.if-not-valid_image_list.false-raw) (read c.before.before.before.before.before) (rw c.if-met.false at (c.met.ensures ts known))
 
 pub meet_spec : {M : Type 1} → statement M
 meet_spec =
