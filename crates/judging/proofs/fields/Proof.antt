@@ -26,7 +26,7 @@ module _ (c : tie.After-paths-judged) where
   told = let s = c.args.catalogue.now in c.paths-judged.ensures ∙ ap (λ n. row_judged (path_fields_fault s) (path_end s) n 2) c.u16_at-n.ensures
 
   fault-is : let s = c.args.catalogue.now in c.paths-judged.result.fault ≡ first_fault (path_fields_fault s) (path_end s) (path_count s) 2
-  fault-is = ap (λ (b : Judged). b.fault-1) told
+  fault-is = ap (λ (b : Judged). b.fault) told
 
   there : 2 ≤ length c.args.catalogue.now
   there = omega arith

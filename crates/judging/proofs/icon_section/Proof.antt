@@ -37,7 +37,7 @@ module _ (c : tie.After-icons-judged) where
   fault-is : let a = c.args in
       let s = a.catalogue.now in
       c.icons-judged.result.fault ≡ first_fault (icon_fields_fault a.n s) (icon_end s) (be 2 s a.at) (a.at + 2)
-  fault-is = ap (λ (b : Judged). b.fault-1) told
+  fault-is = ap (λ (b : Judged). b.fault) told
 
   there : c.args.at + 2 ≤ length c.args.catalogue.now
   there = omega arith

@@ -32,7 +32,7 @@ path-requires c κs = (c.requires.0, omega (arith, same-directories c.requires.0
 -- what is known where a path is judged
 module _ (c : tie.After-struct_known-1 invariant-loop decreases-loop) where
   number : c.path-judged.result.fault.number ≡ (path_fault c.args.cache.now c.loop-i.i).number
-  number = ap (λ (p : JudgedPath). p.fault-1.number) c.path-judged.ensures
+  number = ap (λ (p : JudgedPath). p.fault.number) c.path-judged.ensures
 
   room : c.loop-i.i < length c.loop-i.closed
   room = omega (arith, c.loop-i.invariant.1, same-directories c.requires.0, c.requires.1)
@@ -72,7 +72,7 @@ mul-closed-2 c = omega (arith, few c.before)
 row-requires : tie.Need-row-words-requires invariant-loop decreases-loop
 row-requires c κs =
     let s = c.args.cache.now in
-    let place = ap (λ (p : JudgedPath). p.fault-1.place) c.path-judged.ensures in (
+    let place = ap (λ (p : JudgedPath). p.fault.place) c.path-judged.ensures in (
       omega (arith, few c.before.before, c.loop-i.invariant.3.words-few),
       omega (arith, place, path-within s c.loop-i.i, same-directories c.requires.0, valid-header c.requires.0),
     )
@@ -83,7 +83,7 @@ loop-again-2 c =
       omega arith,
       simp length-set c.loop-i.invariant.1,
       closed-gone c.loop-i.invariant.2 (room c.before.before.before.before.before) bad,
-      paths-put-gone c.loop-i.invariant.3 bad (rw (ap (λ (p : JudgedPath). p.fault-1) c.path-judged.ensures) at c.row-words.ensures),
+      paths-put-gone c.loop-i.invariant.3 bad (rw (ap (λ (p : JudgedPath). p.fault) c.path-judged.ensures) at c.row-words.ensures),
     )
 
 returns : tie.Need-returns invariant-loop decreases-loop

@@ -32,7 +32,7 @@ judged-broken s i {v} e some = let more : v.number ≡ suc (v.number - 1) = omeg
 
 judged-kept : (s : List ℕ) (i : ℕ) {a n : ℕ} → path_fault s i ≡ no_fault → a ≡ be 4 s (path_field s i) → n ≡ length (path_of s i)
     → record { fault = no_fault; start = a; length = n } ≡ path_judged s i
-judged-kept s i e end = rw (e, start, end)
+judged-kept s i e begin end = rw (e, begin, end)
 
 -- the part that starts with the path, and the call's start from the place where the path was read
 abbrev part : tie.Start → List ℕ
@@ -53,44 +53,43 @@ extent-is c = c.read_path-read.ensures.0 ∙ ap (extent 1023) (part-is c.before)
 
 -- in the arm of a whole path: where the path was read, what it is, and that its segments were read
 -- to its end
-told : (c : tie.After-shared_slice_known-in-Whole-1) → extent 1023 (part c.before.before.before.before.before.before.before) ≡ Whole c.in-Whole.length
-told c = sym (extent-is c.before.before) ∙ c.in-Whole.is
+told : (c : tie.In-Whole) → extent 1023 (part c.before.before.before.before.before.before) ≡ Whole c.in-Whole.length
+told c = sym (extent-is c.before) ∙ c.in-Whole.is
 
-whole : (c : tie.After-shared_slice_known-in-Whole-1) → is_whole (extent 1023 (part c.before.before.before.before.before.before.before)) ≡ true
+whole : (c : tie.In-Whole) → is_whole (extent 1023 (part c.before.before.before.before.before.before)) ≡ true
 whole c = whole-is-whole 1023 _ _ (told c)
 
-segments-are : (c : tie.After-shared_slice_known-in-Whole-1) → c.read_path-read.result.valid_segments ≡ valid_segments (string (part c.before.before.before.before.before.before.before))
-segments-are c = c.read_path-read.ensures.1 ∙ ap valid_segments (whole-within 1023 (part-is c.before.before.before) (whole c))
+segments-are : (c : tie.In-Whole) → c.read_path-read.result.valid_segments ≡ valid_segments (string (part c.before.before.before.before.before.before))
+segments-are c = c.read_path-read.ensures.1 ∙ ap valid_segments (whole-within 1023 (part-is c.before.before) (whole c))
 
 u32-at-requires : tie.Need-u32_at-start-requires
 u32-at-requires c κs = omega (arith, valid-header c.requires.0, field_is c)
 
 shared-slice-read-if1 : tie.Need-bounds-part-0
-shared-slice-read-if1 c = omega (arith, whole-string 1023 _ (whole c), ap length (part-is c.before.before.before))
+shared-slice-read-if1 c = omega (arith, whole-string 1023 _ (whole c.before), ap length (part-is c.before.before.before))
 
 returns : tie.Need-returns-then-part-eq47
 returns c =
     let slash = rw (part-is c.before.before.before.before.before) at c.if-part-eq47.true in
-    c.bad_path.ensures ∙ rw (field_is c.before.before.before.before.before.before.before) (judged-broken _ _ (path-absolute _ _ (whole c.before.before) slash) (λ z. omega arith))
+    c.bad_path.ensures ∙ rw (field_is c.before.before.before.before.before.before.before) (judged-broken _ _ (path-absolute _ _ (whole c.before.before.before) slash) (λ z. omega arith))
 
 returns-2 : tie.Need-returns-then-not-valid_segments
 returns-2 c =
     let no_slash = rw (part-is c.before.before.before.before.before.before) at c.if-part-eq47.false in
-    let wrong = sym (segments-are c.before.before.before) ∙ not-true _ c.if-not-valid_segments.true-raw in
-    c.bad_path-then-not-valid_segments.ensures ∙ rw (field_is c.before.before.before.before.before.before.before.before) (judged-broken _ _ (path-segments _ _ (whole c.before.before.before) no_slash wrong) (λ z. omega arith))
+    let wrong = sym (segments-are c.before.before.before.before) ∙ not-true _ c.if-not-valid_segments.true-raw in
+    c.bad_path-then-not-valid_segments.ensures ∙ rw (field_is c.before.before.before.before.before.before.before.before) (judged-broken _ _ (path-segments _ _ (whole c.before.before.before.before) no_slash wrong) (λ z. omega arith))
 
 returns-3 : tie.Need-returns-else-not-valid_segments
 returns-3 c =
     let no_slash = rw (part-is c.before.before.before.before.before) at c.if-part-eq47.false in
-    let all_valid = sym (segments-are c.before.before) ∙ not-false _ c.if-not-valid_segments.false-raw in
-    judged-kept _ _ (path-kept _ _ (whole c.before.before) no_slash all_valid) (start_is c.before.before.before.before.before.before) (whole_length 1023 _ _ (told c.before.before))
+    let all_valid = sym (segments-are c.before.before.before) ∙ not-false _ c.if-not-valid_segments.false-raw in
+    judged-kept _ _ (path-kept _ _ (whole c.before.before.before) no_slash all_valid) (start_is c.before.before.before.before.before.before) (whole_length 1023 _ _ (told c.before.before.before))
 
 returns-4 : tie.Need-returns-in_default
 returns-4 c =
-    let path-read = c.before.before in
-    let broken = ap is_whole (sym (extent-is path-read)) ∙ tag-not-whole _ c.in_default.in_default-own.keys2 in
-    let at_field = ap (λ q. string_fault (extent 1023 (part (start path-read))) 6 q) (field_is path-read.before.before.before) in
-    let judged = c.judge.ensures ∙ ap (λ e. string_fault e 6 path-read.before.before.before.path_field-field.result) (extent-is path-read) ∙ at_field in
+    let broken = ap is_whole (sym (extent-is c.before.before)) ∙ tag-not-whole _ c.in_default.in_default-own.keys2 in
+    let at_field = ap (λ q. string_fault (extent 1023 (part c.before.before.before.before.before.before.before)) 6 q) (field_is c.before.before.before.before.before) in
+    let judged = c.judge.ensures ∙ ap (λ e. string_fault e 6 c.path_field-field.result) (extent-is c.before.before) ∙ at_field in
     rw judged (judged-broken _ _ (path-not-whole _ _ broken) (string-broken _ _ _ broken))
 
 pub path_spec : {M : Type 1} → statement M

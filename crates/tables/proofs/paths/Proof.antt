@@ -27,7 +27,7 @@ path-requires c κs = (c.requires, omega (arith, same-directories c.requires))
 -- the fault that a turn judges is that of the definition
 fault-is : (c : tie.After-path-judged invariant-loop decreases-loop)
     → c.path-judged.result.fault ≡ path_fault c.args.cache.now c.loop-i.i
-fault-is c = ap (λ (p : JudgedPath). p.fault-1) c.path-judged.ensures
+fault-is c = ap (λ (p : JudgedPath). p.fault) c.path-judged.ensures
 
 returns : tie.Need-returns-then-fault-ne0 invariant-loop decreases-loop
 returns c =

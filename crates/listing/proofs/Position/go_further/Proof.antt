@@ -18,7 +18,7 @@ follows : (c : tie.After-finish-chain) {l : Next} → c.finish-chain.result.afte
     reached q a.bucket q.count l ≡ reached q a.bucket q.count (chain_of Short a.cache.now a.bucket q.count).after-1
 follows c e =
     let a = c.args in
-    ap (reached a.self a.bucket a.self.count) (sym e ∙ ap (λ (w : Walked). w.after-1) (c.finish-chain.ensures _ c.go_on-judged.ensures))
+    ap (reached a.self a.bucket a.self.count) (sym e ∙ ap (λ (w : Walked). w.after) (c.finish-chain.ensures _ c.go_on-judged.ensures))
 
 finish-requires : tie.Need-finish-chain-requires
 finish-requires c κs =

@@ -55,16 +55,16 @@ turn c =
 -- what comes after the records passed, where the walk has met an end before
 broken : (c : tie.After-walk-chain invariant-loop decreases-loop) {x p : ℕ} → c.walk-chain.result.after ≡ Broken x p
     → (chain_of Short c.args.cache.now c.loop-bucket.bucket c.loop-bucket.passed).after-1 ≡ Broken x p
-broken c q = sym (ap (λ (w : Walked). w.after-1) (walked-broken _ _ _ c.walk-chain.ensures c.loop-bucket.invariant.1 q)) ∙ q
+broken c q = sym (ap (λ (w : Walked). w.after) (walked-broken _ _ _ c.walk-chain.ensures c.loop-bucket.invariant.1 q)) ∙ q
 
 ended-before : (c : tie.After-walk-chain invariant-loop decreases-loop) → c.walk-chain.result.after ≡ End
     → (chain_of Short c.args.cache.now c.loop-bucket.bucket c.loop-bucket.passed).after-1 ≡ End
-ended-before c q = sym (ap (λ (w : Walked). w.after-1) (walked-ended _ _ _ c.walk-chain.ensures c.loop-bucket.invariant.1 q)) ∙ q
+ended-before c q = sym (ap (λ (w : Walked). w.after) (walked-ended _ _ _ c.walk-chain.ensures c.loop-bucket.invariant.1 q)) ∙ q
 
 reach-requires : tie.Need-reach-step-requires invariant-loop decreases-loop
 reach-requires c κs =
     let pre = c.requires.0 in
-    let next = sym (ap (λ (c : Walked). c.after-1) c.walk-chain.ensures) ∙ c.in-Record.is in
+    let next = sym (ap (λ (c : Walked). c.after) c.walk-chain.ensures) ∙ c.in-Record.is in
     (pre, ((omega (arith, same-buckets pre), c.loop-bucket.invariant.1, omega (arith, c.loop-bucket.invariant.2, valid-header pre)), (c.loop-bucket.invariant.3, next)))
 
 returns : tie.Need-returns-then-step-ne28 invariant-loop decreases-loop
