@@ -53,7 +53,7 @@ small l = omega (arith, valid-header l.requires.0)
 back : (c : tie.Joined-then-stop-most invariant-loop decreases-loop) →
     c.loop-stop.stop < c.args.most → Repeat c.args.cache.now c.args.bucket (suc c.loop-stop.stop)
 back c g =
-    let far = ⊎_elim (λ then. absurd (omega (arith, then.true))) (λ else. ltb-true _ _ else.1.true) c.if-stop-most.branch in
+    let far = ⊎_elim (λ (e : c.loop-stop.stop ≡ c.args.most). absurd (omega arith)) (λ else. else.1) c.then-stop-most.either in
     c.loop-stop.invariant.back far
 
 returns : tie.Need-returns-then-stop-most invariant-loop decreases-loop

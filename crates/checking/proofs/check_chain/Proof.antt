@@ -46,11 +46,11 @@ check_chain_spec =
     (tie.spec
     (λ c κs. let pre = c.requires in omega (arith, pre.1.1, valid-header pre.0))
     (λ c κs. let pre = c.requires in (pre.0, (pre.1.0, omega (arith, c.at_first-stop.ensures, pre.1.1))))
-    (λ c. c.in-Record.in-Record-own.keys1)
+    (λ c. c.in-Record-1.keys1)
     check-long-requires
-    (λ c. c.in-Broken.in-Broken-own.keys2)
+    (λ c. c.in-Broken-1.keys2)
     (λ c κs. search rules)
-    (λ c. c.in-End.in-End-own.keys3)
+    (λ c. c.in-End-1.keys3)
     (λ c κs. search rules)
     (λ c. c.check_long.ensures)
     returns-2

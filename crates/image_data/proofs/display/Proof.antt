@@ -14,8 +14,8 @@ use Rattle.image_data.proofs.display.Tie as tie
 
 inside : (c : tie.Else-way-ne0) → c.entry_part-way.result.at + 8 ≤ length c.args.cache.now
 inside c =
-    let c = c.entry_part-way.ensures in
-    rw (c.leads c.if-way-ne0.false) (entry-inside _ _ _ _ (or_else-none _ _ (way-kept c c.if-way-ne0.false)).1)
+    let way = c.entry_part-way.ensures in
+    rw (way.leads c.if-way-ne0.false) (entry-inside _ _ _ _ (or_else-none _ _ (way-kept way c.if-way-ne0.false)).1)
 
 returns : tie.Need-returns-then-way-ne0
 returns c = c.no_string.ensures ∙ display-refused _ _ _ _ c.entry_part-way.ensures c.if-way-ne0.true

@@ -25,8 +25,8 @@ inside : (c : tie.Else-way-ne0)
     → c.rectangle_part-way.result.at + 8 ≤ length c.args.cache.now
 unfolding rectangle_call_fault
 inside c =
-    let c = c.rectangle_part-way.ensures in
-    rw (c.leads c.if-way-ne0.false) (part-inside _ _ _ _ (or_else-none _ _ (way-kept c c.if-way-ne0.false)).1)
+    let way = c.rectangle_part-way.ensures in
+    rw (way.leads c.if-way-ne0.false) (part-inside _ _ _ _ (or_else-none _ _ (way-kept way c.if-way-ne0.false)).1)
 
 returns : tie.Need-returns-then-way-ne0
 returns c = meets _ _ (rectangle-refused _ _ c.rectangle_part-way.ensures c.if-way-ne0.true)

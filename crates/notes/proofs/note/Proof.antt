@@ -25,7 +25,7 @@ note_spec =
     tie.close
     (tie.spec
     (λ c κs. search rules)
-    (λ c. c.in-Whole.in-Whole-own.keys1)
+    (λ c. c.in-Whole-1.keys1)
     (λ c κs. search rules)
     returns
     (λ c κs. search rules)

@@ -46,7 +46,7 @@ returns-2 c =
     c.judge.ensures ∙ ap (λ e. string_fault e 8 (c.args.«record» + 4)) (named c.before.before) ∙ sym (name-unread _ _ _ broken)
 
 rem-if2 : tie.Need-nonzero_rem-name
-rem-if2 c = rw (counted c) (header-valid _ c.requires.0.header).buckets-some
+rem-if2 c = rw (counted c.before.before.before.before.before.before.before) (header-valid _ c.requires.0.header).buckets-some
 
 returns-3 : tie.Need-returns-then-name-t
 returns-3 c = sym (name-foreign _ _ _ (whole c.before) (rw (placed c.before) at c.if-name-t.true))

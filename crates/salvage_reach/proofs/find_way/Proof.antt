@@ -78,17 +78,17 @@ find_way_spec =
     (λ c κs. search rules)
     loop-holds
     look-requires
-    (λ c. c.in-Ended.in-Ended-own.keys1)
+    (λ c. c.in-Ended-1.keys1)
     (λ c κs. search rules)
     returns
-    (λ c. c.in-Outside.in-Outside-own.keys2)
+    (λ c. c.in-Outside-1.keys2)
     (λ c κs. search rules)
     returns-2
-    (λ c. c.in-Misnamed.in-Misnamed-own.keys3)
+    (λ c. c.in-Misnamed-1.keys3)
     add-reached-at
     (λ c κs. search rules)
     returns-3
-    (λ c. c.in-Passes.in-Passes-own.keys4)
+    (λ c. c.in-Passes-1.keys4)
     sub-t14
     returns-4
     move-up-requires

@@ -59,7 +59,7 @@ last c = sought-last c.stretch-sought.ensures (small c.before.before.before) c.i
 -- the chain has come back, or is followed no further
 over : (c : tie.Joined-then-stop-most invariant-loop decreases-loop) →
     (c.loop-record.stop ≡ most_records c.args.cache.now) ⊎ (c.loop-record.stop < c.loop-record.far)
-over c = ⊎_elim (λ then. inl then.true) (λ else. inr (ltb-true _ _ else.1.true)) c.if-stop-most.branch
+over c = ⊎_elim inl (λ else. inr else.1) c.then-stop-most.either
 
 go-round-requires : tie.Need-go_round-rest-requires invariant-loop decreases-loop
 go-round-requires c κs =

@@ -40,7 +40,7 @@ module _ (c : tie.Else-fault-ne0) where
 returns-2 : tie.Need-returns-then-buckets-eq0
 returns-2 c =
     let a = c.args in
-    let wrong = buckets-wrong (⊎_elim (λ then. inl then.true) (λ else. inr (ltb-true _ _ else.1.true)) c.if-buckets-eq0.branch) in
+    let wrong = buckets-wrong (⊎_elim inl (λ else. inr else.1) c.then-buckets-eq0.either) in
     let e = buckets-refused a.catalogue.now a.buckets a.cache.now (good c.before.before) wrong in
     (write-refused a.catalogue.now a.buckets a.cache.now e (λ z. omega arith) c.refusal-then-buckets-eq0.ensures, leaves_all a.catalogue.now a.buckets a.cache.now e (λ z. omega arith))
 
@@ -51,7 +51,7 @@ allowed c = buckets-allowed c.if-buckets-eq0.false (ltb-false _ _ c.if-buckets-g
 returns-3 : tie.Need-returns-then-cache-length
 returns-3 c =
     let a = c.args in
-    let wrong = size-wrong (⊎_elim (λ then. inl then.true) (λ else. inr (ltb-true _ _ else.1.true)) c.if-cache-length.branch) in
+    let wrong = size-wrong (⊎_elim inl (λ else. inr else.1) c.then-cache-length.either) in
     let e = size-refused a.catalogue.now a.buckets a.cache.now (good c.before.before.before.before.before) (allowed c.before.before.before) (rw c.size-length.ensures at wrong) in
     (write-refused a.catalogue.now a.buckets a.cache.now e (λ z. omega arith) c.refusal-then-cache-length.ensures, leaves_all a.catalogue.now a.buckets a.cache.now e (λ z. omega arith))
 

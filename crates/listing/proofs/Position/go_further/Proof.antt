@@ -39,11 +39,11 @@ go_further_spec =
     (tie.spec
     (λ c κs. search rules)
     finish-requires
-    (λ c. c.in-Record.in-Record-own.keys1)
+    (λ c. c.in-Record-1.keys1)
     (λ c κs. let pre = c.requires in omega (arith, pre.1.0.2, valid-header pre.0))
-    (λ c. c.in-Broken.in-Broken-own.keys2)
+    (λ c. c.in-Broken-1.keys2)
     (λ c κs. search rules)
-    (λ c. c.in-End.in-End-own.keys3)
+    (λ c. c.in-End-1.keys3)
     (λ c κs. search rules)
     returns
     returns-2

@@ -106,13 +106,13 @@ onward_spec =
     (λ c κs.
     let pre = c.requires.0 in
     (pre, (omega (arith, same-buckets pre), omega (arith, c.loop-bucket.invariant.1, c.loop-bucket.invariant.2, valid-header pre))))
-    (λ c. c.in-Record.in-Record-own.keys1)
+    (λ c. c.in-Record-1.keys1)
     reach-requires
     returns
-    (λ c. c.in-Broken.in-Broken-own.keys2)
+    (λ c. c.in-Broken-1.keys2)
     (λ c κs. search rules)
     returns-2
-    (λ c. c.in-End.in-End-own.keys3)
+    (λ c. c.in-End-1.keys3)
     (λ c. omega arith)
     (λ c. omega arith)
     loop-again

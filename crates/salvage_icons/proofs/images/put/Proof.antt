@@ -75,13 +75,13 @@ put_spec =
     (λ c. omega (arith, inside c, few c))
     (λ c. omega (arith, inside c, few c))
     keep-image-requires
-    (λ c. c.in-Stays.in-Stays-own.keys1)
+    (λ c. c.in-Stays-1.keys1)
     put-image-requires
     (λ c. omega (arith, few c.before.before.before.before.before.before, c.loop-i.invariant.2.stay-few))
     (λ c. omega (arith, few c.before.before.before.before.before.before))
     (λ c. omega arith)
     loop-again
-    (λ c. c.in-Goes.in-Goes-own.keys2)
+    (λ c. c.in-Goes-1.keys2)
     (λ c. omega (arith, few c.before.before))
     (λ c. omega arith)
     loop-again-2
