@@ -28,12 +28,12 @@ fits-requires c κs =
 
 returns : tie.Need-returns-then-fits invariant-loop decreases-loop
 returns c =
-    sym (image-here _ _ _ (omega arith) (sym c.fits2.ensures ∙ c.if-fits.true)) ∙ c.loop-left.invariant.2
+    sym (image-here _ _ _ (omega arith) (sym c.fits.ensures ∙ c.if-fits.true)) ∙ c.loop-left.invariant.2
 
 loop-again : tie.Need-loop-left-preserved invariant-loop decreases-loop
 loop-again c =
     let rest = (first-none _ _ _ _ (c.loop-left.left - 1) (omega arith) c.loop-left.invariant.1).1 in
-    (omega arith, rest, sym (image-later _ _ _ (c.loop-left.left - 1) (omega arith) (sym c.fits2.ensures ∙ c.if-fits.false)) ∙ c.loop-left.invariant.2)
+    (omega arith, rest, sym (image-later _ _ _ (c.loop-left.left - 1) (omega arith) (sym c.fits.ensures ∙ c.if-fits.false)) ∙ c.loop-left.invariant.2)
 
 pub first_image_spec : {M : Type 1} → statement M
 first_image_spec =

@@ -72,8 +72,6 @@ loop-holds : tie.Need-loop-at-init invariant-loop decreases-loop
 loop-holds c = (refl, c.first-at.ensures.0, λ i l. absurd (omega (arith, c.first-at.ensures.1)))
 
 -- the record at hand
-module _ (l : tie.At-loop-at invariant-loop decreases-loop) where
-
 module _ (c : tie.In-loop-at invariant-loop decreases-loop) where
   here : let a = c.loop-at.at in Here c.args.cache.now a.number a.bucket a.«record»
   here = c.loop-at.invariant.1.here c.loop-at-test.true

@@ -47,8 +47,6 @@ returns-3 c lent table at first h e =
     (put-at _ _ e c.put_u32.ensures) o.2 o.3)
 
 -- where it is not found
-module _ (c : tie.In-Missing) where
-
 returns-2 : tie.Need-returns-then-entries-index
 returns-2 c lent table at first h e =
     let unset = sym (c.u32_at.ensures ∙ ap (be 4 c.args.out.now) e ∙ cell-is h c.requires.0.0 c.requires.0.4) ∙ c.if-u32_at.false in

@@ -15,7 +15,7 @@ use Rattle.listing.proofs.Position.go_further.Tie as tie
 follows : (c : tie.After-finish-chain) {l : Next} → c.finish-chain.result.after ≡ l
     → let a = c.args in
     let q = a.self in
-    reached q a.bucket q.count l ≡ reached q a.bucket q.count (chain_of Short a.cache.now a.bucket q.count).after-1
+    reached q a.bucket q.count l ≡ reached q a.bucket q.count (chain_of Short a.cache.now a.bucket q.count).after
 follows c e =
     let a = c.args in
     ap (reached a.self a.bucket a.self.count) (sym e ∙ ap (λ (w : Walked). w.after) (c.finish-chain.ensures _ c.go_on-judged.ensures))

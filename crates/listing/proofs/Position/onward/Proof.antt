@@ -20,6 +20,7 @@ use Rattle.listing.proofs.Laws.Steps.{onward-ends, onward-breaks}
 use Rattle.listing.proofs.Laws.Reach.{reach-answers, reach-ends}
 use Rattle.listing.proofs.Position.onward.Statement.{statement}
 use Rattle.listing.proofs.Position.onward.Tie as tie
+use Rattle.listing.proofs.Position.onward.Lts as lts
 
 abbrev invariant-loop : tie.invariant-loop-bucket
 invariant-loop self cache t n bucket₀ passed₀ walked₀ bucket passed walked =
@@ -54,11 +55,11 @@ turn c =
 
 -- what comes after the records passed, where the walk has met an end before
 broken : (c : tie.After-walk-chain invariant-loop decreases-loop) {x p : ℕ} → c.walk-chain.result.after ≡ Broken x p
-    → (chain_of Short c.args.cache.now c.loop-bucket.bucket c.loop-bucket.passed).after-1 ≡ Broken x p
+    → (chain_of Short c.args.cache.now c.loop-bucket.bucket c.loop-bucket.passed).after ≡ Broken x p
 broken c q = sym (ap (λ (w : Walked). w.after) (walked-broken _ _ _ c.walk-chain.ensures c.loop-bucket.invariant.1 q)) ∙ q
 
 ended-before : (c : tie.After-walk-chain invariant-loop decreases-loop) → c.walk-chain.result.after ≡ End
-    → (chain_of Short c.args.cache.now c.loop-bucket.bucket c.loop-bucket.passed).after-1 ≡ End
+    → (chain_of Short c.args.cache.now c.loop-bucket.bucket c.loop-bucket.passed).after ≡ End
 ended-before c q = sym (ap (λ (w : Walked). w.after) (walked-ended _ _ _ c.walk-chain.ensures c.loop-bucket.invariant.1 q)) ∙ q
 
 reach-requires : tie.Need-reach-step-requires invariant-loop decreases-loop
@@ -77,12 +78,12 @@ returns-2 c =
 
 -- the chain has ended
 ended : (c : tie.Joined-after invariant-loop decreases-loop)
-    → (chain_of Short c.args.cache.now c.loop-bucket.bucket c.loop-bucket.passed).after-1 ≡ End
+    → (chain_of Short c.args.cache.now c.loop-bucket.bucket c.loop-bucket.passed).after ≡ End
 ended c =
-    ⊎_elim
-    (λ long. reach-ends _ _ _ _ long.3.ensures long.5.left)
-    (λ short. ended-before c.before short.1.given.1)
-    c.in-Record.branch
+    elim c.match-after.branch [
+      lts.in-Record+else-step-ne28 long ↦ reach-ends _ _ _ _ long.reach-step.ensures long.if-step-ne28.false
+    | lts.in-End short ↦ ended-before c.before short.in-End.is
+    ]
 
 loop-again : tie.Need-loop-bucket-preserved invariant-loop decreases-loop
 loop-again c =
