@@ -8,7 +8,7 @@ use Rattle.format.specs.Header.{directories, path_part, path_of, path_fault, hea
 use Rattle.format.specs.Record.{name_of, bucket_of, images_at, images, valid_image_list}
 use Rattle.format.specs.Words.{TablesKept, Keeps}
 use Rattle.format.proofs.Laws.Faults.{same_number, also, first-kept}
-use Rattle.format.proofs.Laws.Reads.{list_inside}
+use Rattle.format.proofs.Laws.Reads.{list_inside_lem}
 use Rattle.format.proofs.Laws.Header.{header-kept}
 use Rattle.format.proofs.Laws.Texts.{TextWithin, allowed-tells}
 use Rattle.format.proofs.Laws.Paths.{string-first, path-kept}
@@ -89,7 +89,7 @@ module _ {s : List ℕ} {d : Catalogue} {b : ℕ} {q : Places} (good : Good d) (
     valid-image-list =
         let ends : images_at s r + 4 + 8 * images s r ≤ length s = rw (count-stands, list-stands) (f.list-ends i l) in
         let few : images s r ≤ 1024 = rw count-stands icon-good.few in
-        also (list_inside s _ _ ends) (le-leb _ _ few)
+        also (list_inside_lem s _ _ ends) (le-leb _ _ few)
 
     pub record-keeps : Keeps Short s (icon_bucket d b i) r
     record-keeps =
