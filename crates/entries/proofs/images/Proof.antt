@@ -53,7 +53,7 @@ loop-again c =
     let l = c.loop-left in
     let a = c.args in
     let more : l.left ≡ l.left - 1 + 1 = omega (arith, c.loop-left-test) in
-    (there c, judged-goes-on (image_field_fault a.n a.catalogue.now) image_end l.left l.here (told c) refl (l.left - 1) more ∙ l.inv.1)
+    (there c, judged-goes-on (image_field_fault a.n a.catalogue.now) image_end l.left l.here (told c) refl (l.left - 1) more ∙ l.invariant.1)
 
 returns-2 : tie.Need-returns invariant-loop decreases-loop
 returns-2 c = let l = c.loop-left in judged-done _ _ _ _ (omega arith) c.kept.ensures ∙ l.invariant.1

@@ -15,7 +15,7 @@ in-list-requires c κs =
 returns : tie.Need-returns
 returns c =
     let s = c.args.cache.now in
-    c.in_List.ensures
+    c.in_list.ensures
     ∙ ap (λ n. images_data_fault n s (c.u32_at-list.result + 4)) c.u32_at-count.ensures
     ∙ ap (λ p. images_data_fault (be 4 s p) s (p + 4)) c.u32_at-list.ensures
 

@@ -34,10 +34,9 @@ module _ (c : tie.In-Missing) where
 
 returns : tie.Need-returns-then-u32_at
 returns c lent table at first h e =
-    let s = in
-    let cell = c.u32_at.ensures ∙ ap (be 4 s.args.out.now) e ∙ cell-is h s.pre.0.0 s.pre.0.4 in
+    let cell = c.u32_at.ensures ∙ ap (be 4 c.args.out.now) e ∙ cell-is h c.requires.0.0 c.requires.0.4 in
     let o = c.onward.ensures in
-    rw (shared-is c.onward.result o.0 o.1) (shares-set h s.pre.0.0 s.pre.0.4 (λ z. c.if-u32_at.true (cell ∙ z)) o.2 o.3)
+    rw (shared-is c.onward.result o.0 o.1) (shares-set h c.requires.0.0 c.requires.0.4 (λ z. c.if-u32_at.true (cell ∙ z)) o.2 o.3)
 
 returns-3 : tie.Need-returns-in-Found
 returns-3 c lent table at first h e =

@@ -64,7 +64,7 @@ loop-again c =
       omega arith,
       omega arith,
       at-is c.before.before.before.before.before.before.before.before.before,
-      blocks_more _ _ _ _ _ u r c.loop-done.invariant.4 (few c.before.before.before.before.before.before.before.before.before) taken.marks-1 looked (names-later _ _ u c.loop-done.invariant.3) (names-later _ _ (u + r) (at-is c.before.before.before.before.before.before.before.before.before)),
+      blocks_more _ _ _ _ _ u r c.loop-done.invariant.4 (few c.before.before.before.before.before.before.before.before.before) taken.marks looked (names-later _ _ u c.loop-done.invariant.3) (names-later _ _ (u + r) (at-is c.before.before.before.before.before.before.before.before.before)),
     )
 
 returns : tie.Need-returns invariant-loop decreases-loop

@@ -29,18 +29,18 @@ module _ (c : tie.After-path-path) where
   ends = omega (arith, at-is, size_is, path-ends c.requires.0.0.accepted c.requires.0.1)
 
 -- where it is found, or would be
-module _ (c : tie.In-Found-2) where
+module _ (c : tie.In-Found) where
   is_found : c.find-spot.result ≡ Found c.in-Found.e
   is_found = c.in-Found.is
 
   below : c.in-Found.e < c.args.texts.entries
   below = found_below is_found c.find-spot.ensures.0
 
-module _ (c : tie.In-Missing-2) where
-  is-missing : c.find-spot.result ≡ Missing c.in-Missing.e
+module _ (c : tie.In-Missing) where
+  is-missing : c.find-spot.result ≡ Missing c.in-Missing.i
   is-missing = c.in-Missing.is
 
-  within : c.in-Missing.e ≤ c.args.texts.entries
+  within : c.in-Missing.i ≤ c.args.texts.entries
   within = missing-within is-missing c.find-spot.ensures.0
 
 -- at the start of what a new path needs
@@ -49,14 +49,14 @@ few c = omega (arith, c.requires.0.1, c.requires.0.2, valid-header c.requires.0.
 
 returns : tie.Need-returns-in-Found
 returns c lent table at h field =
-    pathed-known c.requires.0.0.accepted c.requires.0.1 h (at-is c.before.before.before.before.before.before.before.before) (below c.before.before.before.before.before.before)
-    (found-entry _ _ _ _ (is_found c.before.before.before.before.before.before) (c.find-spot.ensures.1 h.known.known.rising)) field refl c.long.ensures
+    pathed-known c.requires.0.0.accepted c.requires.0.1 h (at-is c.before.before.before.before.before.before.before.before) (below c.before.before.before.before.before)
+    (found-entry _ _ _ _ (is_found c.before.before.before.before.before) (c.find-spot.ensures.1 h.known.known.rising)) field refl c.long.ensures
 
 returns-2 : tie.Need-returns-in-Missing
 returns-2 c lent table at h field =
     let acc = c.requires.0.0.accepted in
     let bytes = path_bytes_lem acc c.requires.0.1 (at-is c.before.before.before.before.before.before.before.before.before.before.before.before.before.before.before.before.before.before.before) (ap (λ n. n + 1) (size_is c.before.before.before.before.before.before.before.before.before.before.before.before.before.before.before.before.before.before.before)) in
-    pathed-new acc c.requires.0.1 h (at-is c.before.before.before.before.before.before.before.before.before.before.before.before.before.before.before.before.before.before.before) (missing-between _ _ _ _ (is-missing c.before.before.before.before.before.before.before.before.before.before.before.before.before.before.before.before.before) (c.find-spot.ensures.1 h.known.known.rising)) (within c.before.before.before.before.before.before.before.before.before.before.before.before.before.before.before.before.before) field
+    pathed-new acc c.requires.0.1 h (at-is c.before.before.before.before.before.before.before.before.before.before.before.before.before.before.before.before.before.before.before) (missing-between _ _ _ _ (is-missing c.before.before.before.before.before.before.before.before.before.before.before.before.before.before.before.before) (c.find-spot.ensures.1 h.known.known.rising)) (within c.before.before.before.before.before.before.before.before.before.before.before.before.before.before.before.before) field
     c.add.ensures c.long-in-Missing.ensures (puts-same bytes c.text.ensures)
 
 pub path_spec : {M : Type 1} → statement M
@@ -67,12 +67,12 @@ path_spec =
     (λ c. omega (arith, ends c.before, valid-header c.requires.0.0.tables))
     (λ c κs. omega (arith, c.requires.0.2, valid-header c.requires.0.0.tables))
     (λ c. search rules)
-    (λ c. omega (arith, below c.before.before, c.requires.0.2, valid-header c.requires.0.0.tables))
-    (λ c. omega (arith, below c.before.before.before, few c.before.before.before.before.before.before.before.before.before.before, c.requires.0.3))
+    (λ c. omega (arith, below c.before, c.requires.0.2, valid-header c.requires.0.0.tables))
+    (λ c. omega (arith, below c.before.before, few c.before.before.before.before.before.before.before.before.before.before, c.requires.0.3))
     (λ c κs. search rules)
     (λ c. search rules)
     (λ c. search rules)
-    (λ c κs. (within c.before.before.before, omega (arith, few c.before.before.before.before.before.before.before.before.before.before, c.requires.0.3), omega (arith, few c.before.before.before.before.before.before.before.before.before.before, c.requires.0.4)))
+    (λ c κs. (within c.before.before, omega (arith, few c.before.before.before.before.before.before.before.before.before.before, c.requires.0.3), omega (arith, few c.before.before.before.before.before.before.before.before.before.before, c.requires.0.4)))
     (λ c. search rules)
     (λ c κs. search rules)
     (λ c. omega (arith, few c.before.before.before.before.before.before.before.before.before.before.before.before.before.before.before.before.before.before.before))

@@ -56,11 +56,10 @@ short-requires c κs = omega (arith, c.requires.3)
 returns : tie.Need-returns invariant-loop decreases-loop
 returns c =
     let h = c.loop-i.invariant in
-    let s = in
-    let all : c.loop-i.i ≡ images s.args.cache.now s.args.«record» = omega (arith, h.0.count) in
+    let all : c.loop-i.i ≡ images c.args.cache.now c.args.«record» = omega (arith, h.0.count) in
     let behind = c.short.ensures.next in
-    let next : s.args.at + 2 ≡ c.short.result = omega (arith, behind, bytes-length 2 c.loop-i.stay) in
-    (put_all h.2 all (rw next c.short.ensures), omega (arith, h.2.next-few, s.pre.2.few))
+    let next : c.args.at + 2 ≡ c.short.result = omega (arith, behind, bytes-length 2 c.loop-i.stay) in
+    (put_all h.2 all (rw next c.short.ensures), omega (arith, h.2.next-few, c.requires.2.few))
 
 pub put_spec : {M : Type 1} → statement M
 put_spec =

@@ -49,9 +49,8 @@ loop-again-2 c =
 returns : tie.Need-returns invariant-loop decreases-loop
 returns c =
     let h = c.loop-i.invariant in
-    let s = in
-    let all : c.loop-i.i ≡ images s.args.cache.now s.args.«record» = omega (arith, h.0.count) in
-    (rw all at h.2.put, omega (arith, h.2.few, s.pre.1.few))
+    let all : c.loop-i.i ≡ images c.args.cache.now c.args.«record» = omega (arith, h.0.count) in
+    (rw all at h.2.put, omega (arith, h.2.few, c.requires.1.few))
 
 pub put_rows_spec : {M : Type 1} → statement M
 put_rows_spec =
