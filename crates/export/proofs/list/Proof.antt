@@ -36,26 +36,20 @@ module _ (c : tie.Else-icons-gt65535) where
 
 whole-requires : tie.Need-whole-size-requires
 whole-requires c κs =
-    let few-enough = c.before.before in
-    indexed (begin few-enough).requires.0 c.records-n.ensures (few few-enough) (omega (arith, (begin few-enough).requires.2))
+    indexed c.requires.0 c.records-n.ensures (few c.before.before.before.before) (omega (arith, c.requires.2))
 
 returns-3 : tie.Need-returns-then-catalogue-size
 returns-3 c =
-    let few-enough = c.before.before.before.before.before.before in
-    let start = begin few-enough in
-    let told = short-refused _ start.args.catalogue.now (sound-checked start.pre.0) (apart few-enough.before) (few few-enough) (omega (arith, c.whole-size.ensures)) in
+    let told = short-refused _ c.args.catalogue.now (sound-checked c.requires.0) (apart c.before.before.before.before.before.before.before.before) (few c.before.before.before.before.before.before.before) (omega (arith, c.whole-size.ensures)) in
     (c.refusal-then-catalogue-size.ensures ∙ told.0, told.1)
 
 whole-requires-2 : tie.Need-whole-requires
 whole-requires-2 c κs =
-    let few-enough = c.before.before in
-    (indexed (begin few-enough).requires.0 c.records-n.ensures (few few-enough) (omega (arith, (begin few-enough).requires.2)), omega (arith, c.whole-size.ensures))
+    (indexed c.requires.0 c.records-n.ensures (few c.before.before.before.before.before.before.before) (omega (arith, c.requires.2)), omega (arith, c.whole-size.ensures))
 
 returns-4 : tie.Need-returns
 returns-4 c =
-    let few-enough = c.before.before.before.before.before.before in
-    let start = begin few-enough in
-    listed-whole _ start.args.catalogue.now (sound-checked start.pre.0) (apart few-enough.before) (few few-enough) (omega (arith, c.whole-size.ensures)) c.whole-size.ensures c.whole.ensures
+    listed-whole _ c.args.catalogue.now (sound-checked c.requires.0) (apart c.before.before.before.before.before.before.before.before.before.before.before) (few c.before.before.before.before.before.before.before.before.before.before) (omega (arith, c.whole-size.ensures)) c.whole-size.ensures c.whole.ensures
 
 pub list_spec : {M : Type 1} → statement M
 list_spec =
@@ -68,7 +62,7 @@ list_spec =
     (λ c κs. search rules)
     (λ c. search rules)
     returns-2
-    (λ c κs. let few-enough = c.before in ((begin few-enough).requires.0, omega (arith, few few-enough, (begin few-enough).requires.2)))
+    (λ c κs. (c.requires.0, omega (arith, few c.before, c.requires.2)))
     whole-requires
     (λ c κs. search rules)
     (λ c. search rules)

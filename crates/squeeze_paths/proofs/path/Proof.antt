@@ -7,6 +7,8 @@ use lib.ListN.{length}
 use Rattle.format.specs.Number.{be}
 use Rattle.format.specs.Header.{path_field, path_of}
 use Rattle.names.specs.declared.Spot.TheVariants.{Found, Missing}
+use Rattle.keys.specs.Key.{key_at}
+use Rattle.keys.specs.declared.Kind.TheVariants.{Ended}
 use Rattle.squeeze_index.specs.Laws.Maps.{found_below, missing-within, found-entry, missing-between}
 use Rattle.squeeze_index.specs.Laws.Both.{puts-same}
 use Rattle.tables.specs.Laws.{PathInside, path-start, path-size, valid-header}
@@ -37,10 +39,10 @@ module _ (c : tie.In-Found) where
   below = found_below is_found c.find-spot.ensures.0
 
 module _ (c : tie.In-Missing) where
-  is-missing : c.find-spot.result ≡ Missing c.in-Missing.i
-  is-missing = c.in-Missing.is
+  is-missing : c.find-spot.result ≡ Missing c.in-Missing.e
+  is-missing = c.in-Missing.es
 
-  within : c.in-Missing.i ≤ c.args.texts.entries
+  within : c.in-Missing.e ≤ c.args.texts.entries
   within = missing-within is-missing c.find-spot.ensures.0
 
 -- at the start of what a new path needs
@@ -50,13 +52,13 @@ few c = omega (arith, c.requires.0.1, c.requires.0.2, valid-header c.requires.0.
 returns : tie.Need-returns-in-Found
 returns c lent table at h field =
     pathed-known c.requires.0.0.accepted c.requires.0.1 h (at-is c.before.before.before.before.before.before.before.before) (below c.before.before.before.before.before)
-    (found-entry _ _ _ _ (is_found c.before.before.before.before.before) (c.find-spot.ensures.1 h.known.known.rising)) field refl c.long.ensures
+    (found-entry (key_at Ended c.args.cache.now) c.args.index.now c.args.texts.entries c.path-path.result.start (is_found c.before.before.before.before.before) (c.find-spot.ensures.1 h.known.known.rising)) field refl c.long.ensures
 
 returns-2 : tie.Need-returns-in-Missing
 returns-2 c lent table at h field =
     let acc = c.requires.0.0.accepted in
     let bytes = path_bytes_lem acc c.requires.0.1 (at-is c.before.before.before.before.before.before.before.before.before.before.before.before.before.before.before.before.before.before.before) (ap (λ n. n + 1) (size_is c.before.before.before.before.before.before.before.before.before.before.before.before.before.before.before.before.before.before.before)) in
-    pathed-new acc c.requires.0.1 h (at-is c.before.before.before.before.before.before.before.before.before.before.before.before.before.before.before.before.before.before.before) (missing-between _ _ _ _ (is-missing c.before.before.before.before.before.before.before.before.before.before.before.before.before.before.before.before) (c.find-spot.ensures.1 h.known.known.rising)) (within c.before.before.before.before.before.before.before.before.before.before.before.before.before.before.before.before) field
+    pathed-new acc c.requires.0.1 h (at-is c.before.before.before.before.before.before.before.before.before.before.before.before.before.before.before.before.before.before.before) (missing-between (key_at Ended c.args.cache.now) c.args.index.now c.args.texts.entries c.path-path.result.start (is-missing c.before.before.before.before.before.before.before.before.before.before.before.before.before.before.before.before) (c.find-spot.ensures.1 h.known.known.rising)) (within c.before.before.before.before.before.before.before.before.before.before.before.before.before.before.before.before) field
     c.add.ensures c.long-in-Missing.ensures (puts-same bytes c.text.ensures)
 
 pub path_spec : {M : Type 1} → statement M

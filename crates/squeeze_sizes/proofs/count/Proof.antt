@@ -25,7 +25,7 @@ module _ (c : tie.In-Found) where
   room = omega (arith, below, c.requires.0.2, c.requires.1.2.fits)
 
   same : entry (key_at Images c.args.cache.now) c.args.index.now c.in-Found.e ≡ key_at Images c.args.cache.now c.args.list
-  same = found-entry _ _ _ _ is_found (c.find-spot.ensures.1 c.requires.1.2.known.known.rising)
+  same = found-entry (key_at Images c.args.cache.now) c.args.index.now c.args.counted.entries c.args.list is_found (c.find-spot.ensures.1 c.requires.1.2.known.known.rising)
 
 -- the entry that it would be
 module _ (c : tie.In-Missing) where
@@ -41,7 +41,7 @@ returns c first before h =
 
 returns-2 : tie.Need-returns-then-entries-index
 returns-2 c first before h =
-    counts-new h c.requires.0.0 c.if-until-icon-2.true (missing-between _ _ _ _ (is-missing c.before.before.before.before.before.before) (c.find-spot.ensures.1 h.known.known.rising))
+    counts-new h c.requires.0.0 c.if-until-icon-2.true (missing-between (key_at Images c.args.cache.now) c.args.index.now c.args.counted.entries c.args.list (is-missing c.before.before.before.before.before.before) (c.find-spot.ensures.1 h.known.known.rising))
     (within c.before.before.before.before.before.before) (omega arith) (omega (arith, c.requires.0.2)) c.insert.ensures (ap (λ n. c.args.counted.bytes + (4 + 8 * n)) c.u32_at.ensures)
 
 come-again-requires : tie.Need-come_again-requires
@@ -54,12 +54,12 @@ returns-3 c first before h =
 
 returns-4 : tie.Need-returns-else-entries-index
 returns-4 c first before h =
-    counts-passed h c.requires.0.0 (missing-between _ _ _ _ (is-missing c.before.before) (c.find-spot.ensures.1 h.known.known.rising))
+    counts-passed h c.requires.0.0 (missing-between (key_at Images c.args.cache.now) c.args.index.now c.args.counted.entries c.args.list (is-missing c.before.before) (c.find-spot.ensures.1 h.known.known.rising))
     (omega (arith, h.most, c.if-entries-index.false, c.requires.0.1))
 
 returns-5 : tie.Need-returns-else-until-icon-2
 returns-5 c first before h =
-    counts-passed h c.requires.0.0 (missing-between _ _ _ _ (is-missing c.before) (c.find-spot.ensures.1 h.known.known.rising))
+    counts-passed h c.requires.0.0 (missing-between (key_at Images c.args.cache.now) c.args.index.now c.args.counted.entries c.args.list (is-missing c.before) (c.find-spot.ensures.1 h.known.known.rising))
     (behind-some h c.if-until-icon-2.false)
 
 pub count_spec : {M : Type 1} → statement M

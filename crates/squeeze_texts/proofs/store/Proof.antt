@@ -6,6 +6,8 @@ use borrow.Author.Rules.{rules}
 use lib.ListN.{drop}
 use Rattle.names.specs.declared.Spot.TheVariants.{Found}
 use Rattle.format.proofs.Laws.Strings.{whole-string}
+use Rattle.keys.specs.Key.{key_at}
+use Rattle.keys.specs.declared.Kind.TheVariants.{Ended}
 use Rattle.squeeze_index.specs.Laws.Maps.{found_below, found-entry, missing-between, maps-met, maps-value, maps-missing}
 use Rattle.squeeze_texts.specs.Laws.{stores-used, stores-new}
 use Rattle.squeeze_texts.proofs.store.Statement.{statement}
@@ -28,7 +30,7 @@ returns c =
     (
       omega arith,
       λ at i known named.
-          let entry = found-entry _ _ _ _ (is_found c.before) (c.find-spot.ensures.1 known.known.rising) in
+          let entry = found-entry (key_at Ended c.args.cache.now) c.args.index.now c.args.entries c.args.name (is_found c.before) (c.find-spot.ensures.1 known.known.rising) in
           stores-used c.requires.0 named (maps-met known c.args.name (below c.before) entry) (maps-value known c.args.name (below c.before) entry) refl,
     )
 
@@ -37,7 +39,7 @@ returns-2 c =
     (
       omega (arith, short c),
       λ at i known named.
-          let between = missing-between _ _ _ _ c.in-Missing.is (c.find-spot.ensures.1 known.known.rising) in
+          let between = missing-between (key_at Ended c.args.cache.now) c.args.index.now c.args.entries c.args.name c.in-Missing.is (c.find-spot.ensures.1 known.known.rising) in
           stores-new c.requires.0 named (maps-missing known c.args.name between) refl (ap (λ n. c.args.end + (n + 1)) c.name_length.ensures),
     )
 

@@ -14,7 +14,7 @@ use Rattle.passes.proofs.putting.names.Tie as tie
 
 abbrev invariant-loop : tie.invariant-loop-i
 invariant-loop catalogue first icons out₀ at icon₀ place₀ i₀ out icon place i =
-    (i ≤ icons) × Pass (icon_end catalogue) first (λ j. text_and_zero (nth_icon (catalogue_in catalogue) j).name-place) out₀ at out icon place i
+    (i ≤ icons) × Pass (icon_end catalogue) first (λ j. text_and_zero (nth_icon (catalogue_in catalogue) j).name) out₀ at out icon place i
 
 abbrev decreases-loop : tie.decreases-loop-i
 decreases-loop catalogue first icons out₀ at icon₀ place₀ i₀ out icon place i = icons - i
@@ -27,10 +27,10 @@ module _ (c : tie.In-loop-i invariant-loop decreases-loop) where
   ends : let s = c.args.catalogue.now in icon_end s c.loop-i.icon ≤ length s
   ends = icon-ends c.requires.0.1 c.loop-i-test.true c.loop-i.invariant.1.here
 
-  size : let s = c.args.catalogue.now in name_length s c.loop-i.icon + 1 ≡ length (text_and_zero (nth_icon (catalogue_in s) c.loop-i.i).name-place)
+  size : let s = c.args.catalogue.now in name_length s c.loop-i.icon + 1 ≡ length (text_and_zero (nth_icon (catalogue_in s) c.loop-i.i).name)
   size = name-size c.requires.0.1 c.loop-i-test.true c.loop-i.invariant.1.here
 
-  room : let s = c.args.catalogue.now in c.loop-i.place + length (text_and_zero (nth_icon (catalogue_in s) c.loop-i.i).name-place) ≤ length c.loop-i.out
+  room : let s = c.args.catalogue.now in c.loop-i.place + length (text_and_zero (nth_icon (catalogue_in s) c.loop-i.i).name) ≤ length c.loop-i.out
   room = pass-room _ _ _ _ _ c.loop-i.invariant.1 c.loop-i-test.true c.requires.1
 
 name-requires : tie.Need-name-place-requires invariant-loop decreases-loop
@@ -38,12 +38,9 @@ name-requires c κs = (ends c.before, omega (arith, size c.before, room c.before
 
 loop-again : tie.Need-loop-i-preserved invariant-loop decreases-loop
 loop-again c =
-    let put-name = c.before.before.before in
-    let turn = put-name.before.before in
-    let l = turn.before in
-    let this = put-name.name-place.ensures.0 ∙ ap (put l.loop-i.out l.loop-i.place) (name-is l.requires.0.1 turn.loop-i-test.true l.loop-i.invariant.1.here) in
-    let more = put-name.name-place.ensures.1 ∙ ap (λ n. l.loop-i.place + n) (size turn) in
-    (omega arith, pass-next _ _ _ _ _ l.loop-i.invariant.1 turn.loop-i-test.true l.requires.1 this (omega arith) c.icon_end-icon.ensures more)
+    let this = c.name-place.ensures.0 ∙ ap (put c.loop-i.out c.loop-i.place) (name-is c.requires.0.1 c.loop-i-test.true c.loop-i.invariant.1.here) in
+    let more = c.name-place.ensures.1 ∙ ap (λ n. c.loop-i.place + n) (size c.before.before.before.before.before) in
+    (omega arith, pass-next _ _ _ _ _ c.loop-i.invariant.1 c.loop-i-test.true c.requires.1 this (omega arith) c.icon_end-icon.ensures more)
 
 returns : tie.Need-returns invariant-loop decreases-loop
 returns c =

@@ -38,12 +38,9 @@ path-requires c κs = (ends c.before, omega (arith, size c.before, room c.before
 
 loop-again : tie.Need-loop-i-preserved invariant-loop decreases-loop
 loop-again c =
-    let put-path = c.before.before.before in
-    let turn = put-path.before.before in
-    let l = turn.before in
-    let this = put-path.path-place.ensures.0 ∙ ap (put l.loop-i.out l.loop-i.place) (path-is l.requires.0.2 turn.loop-i-test.true l.loop-i.invariant.1.here) in
-    let more = put-path.path-place.ensures.1 ∙ ap (λ n. l.loop-i.place + n) (size turn) in
-    (omega arith, pass-next _ _ _ _ _ l.loop-i.invariant.1 turn.loop-i-test.true l.requires.1 this (omega arith) c.path_end-here.ensures more)
+    let this = c.path-place.ensures.0 ∙ ap (put c.loop-i.out c.loop-i.place) (path-is c.requires.0.2 c.loop-i-test.true c.loop-i.invariant.1.here) in
+    let more = c.path-place.ensures.1 ∙ ap (λ n. c.loop-i.place + n) (size c.before.before.before.before.before) in
+    (omega arith, pass-next _ _ _ _ _ c.loop-i.invariant.1 c.loop-i-test.true c.requires.1 this (omega arith) c.path_end-here.ensures more)
 
 returns : tie.Need-returns invariant-loop decreases-loop
 returns c =
