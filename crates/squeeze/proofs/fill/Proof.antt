@@ -104,8 +104,8 @@ records-requires c κs =
     let w = c.requires.1 in
     let few = (pathed₃ c.before.before.before.before.before.before.before.before.before.before.before).most in
     let v = valid-header c.requires.0.tables in
-    let k = c.paths-texts.kept in
-    let j = c.lists.kept in (
+    let k = c.paths-texts.auto in
+    let j = c.lists.auto in (
       (c.requires.0, w.marked, omega (arith, w.index-wide, k, j, few, v), omega (arith, w.places-wide, k, j, few, v)),
       (((pathed₃ c.before.before.before.before.before.before.before.before.before.before.before).known, (pathed₃ c.before.before.before.before.before.before.before.before.before.before.before).ends), (c.requires.2.icons, ready₄ c.before.before.before)),
     )
@@ -139,5 +139,5 @@ fill_spec =
     records-requires
     (λ c. search rules)
     (λ c. search rules)
-    (λ c. omega (arith, c.«records».auto, c.tables.kept, c.paths-texts.kept, c.lists.kept, c.clear.auto))
+    (λ c. omega (arith, c.«records».auto, c.tables.auto, c.paths-texts.auto, c.lists.auto, c.clear.auto))
     returns)

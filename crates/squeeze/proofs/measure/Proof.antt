@@ -32,7 +32,7 @@ measure-requires c κs =
 
 measure-requires-2 : tie.Need-measure-requires
 measure-requires-2 c κs =
-    let k = c.paths-texts.kept in
+    let k = c.paths-texts.auto in
     let w = c.requires.1 in (
       (c.requires.0, omega (arith, w.index-wide, k), omega (arith, w.index-wide, w.places-wide, k), omega (arith, w.places-wide, k), w.marked),
       c.measure-named.ensures.icons,

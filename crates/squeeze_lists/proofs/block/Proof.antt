@@ -57,9 +57,9 @@ loop-less c = omega (arith, (here c.before.before.before.before.before.before.be
 loop-again : tie.Need-loop-icon-preserved invariant-loop decreases-loop
 loop-again c =
     let shared = c.share-shared in (
-      omega (arith, c.loop-icon.invariant.0, shared.kept),
-      omega (arith, c.loop-icon.invariant.1, shared.kept),
-      omega (arith, c.loop-icon.invariant.2, shared.kept),
+      omega (arith, c.loop-icon.invariant.0, shared.auto),
+      omega (arith, c.loop-icon.invariant.1, shared.auto),
+      omega (arith, c.loop-icon.invariant.2, shared.auto),
       c.next-icon.ensures.0,
       λ lent at h. shares_at c.next-icon.ensures.1 (shared.ensures lent _ at _ (c.loop-icon.invariant.4 lent at h) refl),
     )

@@ -40,7 +40,7 @@ module _ (c : tie.In-Found) where
 
 module _ (c : tie.In-Missing) where
   is-missing : c.find-spot.result ≡ Missing c.in-Missing.e
-  is-missing = c.in-Missing.es
+  is-missing = c.in-Missing.is
 
   within : c.in-Missing.e ≤ c.args.texts.entries
   within = missing-within is-missing c.find-spot.ensures.0

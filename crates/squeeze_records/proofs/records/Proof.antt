@@ -14,17 +14,17 @@ use Rattle.squeeze_records.proofs.records.Statement.{statement}
 use Rattle.squeeze_records.proofs.records.Tie as tie
 
 abbrev invariant-loop : tie.invariant-loop-item
-invariant-loop cache t index places repeated out₀ texts icons table item₀ end₀ last₀ out item end last =
-    (length out ≡ length out₀) × Staying cache item × Recorded cache out₀ out item.icon-end end last
+invariant-loop cache t index places repeated out₀ texts icons begin table item₀ end₀ last₀ out item end last =
+    (length out ≡ length out₀) × Staying cache item × Recorded cache out₀ out item.icon end last
 
 abbrev decreases-loop : tie.decreases-loop-item
-decreases-loop cache t index places repeated out₀ texts icons table item₀ end₀ last₀ out item end last = definition.icons cache - item.icon-end
+decreases-loop cache t index places repeated out₀ texts icons begin table item₀ end₀ last₀ out item end last = definition.icons cache - item.icon
 
 few : (c : tie.Start invariant-loop decreases-loop) → c.args.icons ≤ 2 ^ 24
 few c = omega (arith, c.requires.1.1.0, icons-few c.requires.0.0.accepted, valid-header c.requires.0.0.tables)
 
 module _ (c : tie.In-loop-item invariant-loop decreases-loop) where
-  here : let x = c.loop-item.item in IconAt c.args.cache.now x.icon-end x.at.bucket x.at.«record»
+  here : let x = c.loop-item.item in IconAt c.args.cache.now x.icon x.at.bucket x.at.«record»
   here = icon-at c.requires.0.0.accepted c.loop-item.invariant.1 c.loop-item-test.true
 
 loop-holds : tie.Need-loop-item-init invariant-loop decreases-loop
