@@ -45,14 +45,14 @@ places_of c =
 
 -- the table is cleared
 module _ (c : tie.After-clear) where
-  filled₁ : let x = c.args.cache.now in Filled x c.args.out.now c.clear.new.0 (table x) (lists x) 0 (lists x)
+  filled₁ : let x = c.args.cache.now in Filled x c.args.out.now c.clear.new.out (table x) (lists x) 0 (lists x)
   filled₁ =
       let p = places_of c.before.before.before.before.before.before.before.before.before.before in
       nothing_stored c.requires.3 (put_same _ (λ _. bytes 4 end_value) p.table_is c.requires.2.icons c.clear.ensures)
 
 -- the lists are stored
 module _ (c : tie.After-lists) where
-  filled₂ : let x = c.args.cache.now in (end : ℕ) × Filled x c.args.out.now c.lists.new.1.1.1.1.1.0 (table x) (lists x) (icons x) end
+  filled₂ : let x = c.args.cache.now in (end : ℕ) × Filled x c.args.out.now c.lists.new.out (table x) (lists x) (icons x) end
   filled₂ =
       let p = places_of c.before.before.before.before.before.before.before.before.before.before.before.before.before.before.before.before in
       let (end, h) = c.lists.ensures c.args.out.now (lists c.args.cache.now) (filled-same (sym p.table_is) (sym p.first-is) (filled₁ c.before.before.before.before.before.before)) in
@@ -61,18 +61,18 @@ module _ (c : tie.After-lists) where
 -- the paths are put
 module _ (c : tie.After-paths-texts) where
   pathed₃ : let x = c.args.cache.now in
-      Pathed x c.lists.new.1.1.1.1.1.0 c.paths-texts.new.1.1.1.1.0 c.paths-texts.new.1.1.0 c.paths-texts.new.1.1.1.0 (folders x) (strings x) (directories x) c.paths-texts.result
+      Pathed x c.lists.new.out c.paths-texts.new.out c.paths-texts.new.index c.paths-texts.new.places (folders x) (strings x) (directories x) c.paths-texts.result
   pathed₃ = let p = places_of c.before.before.before.before.before.before.before.before.before.before.before.before.before.before.before.before.before.before.before.before.before.before.before.before.before.before in pathed-same p.folders-is p.strings-is c.paths-texts.ensures
 
 -- the header and the hash are put
 module _ (c : tie.After-tables) where
-  headed₄ : let x = c.args.cache.now in c.tables.new.0 ≡ put c.paths-texts.new.1.1.1.1.0 0 (front (contents x) (buckets x) (places x) 0)
+  headed₄ : let x = c.args.cache.now in c.tables.new.out ≡ put c.paths-texts.new.out 0 (front (contents x) (buckets x) (places x) 0)
   headed₄ =
       let p = places_of c.before.before.before.before.before.before.before.before.before.before.before.before.before.before.before.before.before.before.before.before.before.before.before.before.before.before.before.before.before.before.before.before.before.before in
       let x = c.args.cache.now in
-      c.tables.ensures ∙ ap (put c.paths-texts.new.1.1.1.1.0 0) (empty-front x p.folders-is (same-buckets c.requires.0.tables))
+      c.tables.ensures ∙ ap (put c.paths-texts.new.out 0) (empty-front x p.folders-is (same-buckets c.requires.0.tables))
 
-  ready₄ : Ready c.args.cache.now c.tables.new.0
+  ready₄ : Ready c.args.cache.now c.tables.new.out
   ready₄ = ready c.requires.3 (filled₂ c.before.before.before.before.before.before.before.before.before.before.before.before.before.before.before.before.before.before).1 (pathed₃ c.before.before.before.before.before.before.before.before) headed₄
 
 lists-requires : tie.Need-lists-requires
@@ -112,7 +112,7 @@ records-requires c κs =
 
 returns : tie.Need-returns
 returns c =
-    squeezed-whole c.requires.3 (filled₂ c.before.before.before.before.before.before.before.before.before.before.before.before.before.before.before.before.before.before.before.before.before.before.before.before).1 (pathed₃ c.before.before.before.before.before.before.before.before.before.before.before.before.before.before) (headed₄ c.before.before.before.before.before.before) (c.«records».ensures ∙ ap (recorded c.args.cache.now c.tables.last.0) c.requires.2.icons)
+    squeezed-whole c.requires.3 (filled₂ c.before.before.before.before.before.before.before.before.before.before.before.before.before.before.before.before.before.before.before.before.before.before.before.before).1 (pathed₃ c.before.before.before.before.before.before.before.before.before.before.before.before.before.before) (headed₄ c.before.before.before.before.before.before) (c.«records».ensures ∙ ap (recorded c.args.cache.now c.tables.new.out) c.requires.2.icons)
 
 pub fill_spec : {M : Type 1} → statement M
 fill_spec =

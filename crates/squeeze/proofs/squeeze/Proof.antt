@@ -44,7 +44,7 @@ rewrite-requires c κs =
       record {
         index-wide = omega (arith, length-replicate {A = ℕ} 65536 0, c.mark_repeated.auto);
         places-wide = length-replicate {A = ℕ} 65536 0;
-        c = c.mark_repeated.ensures (zeros-unmarked 30720);
+        marked = c.mark_repeated.ensures (zeros-unmarked 30720);
       },
       omega (arith, same-buckets c.read-t.ensures, c.if-t-gt4096.false),
       sym (same_number c.image_data-fault.ensures) ∙ c.if-fault-ne0.false,
