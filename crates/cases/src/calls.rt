@@ -1,5 +1,5 @@
 // The commands that ask, and print what is answered.
-use crate::{answers, catalogues, icons, images, notes, picks, salvages};
+use crate::{answers, catalogues, icons, image_notes, images, picks, salvages};
 use cases_made::script;
 use cases_made::script::Words;
 use listing::Position;
@@ -35,11 +35,11 @@ pub fn ask(rt: &impl Print, case: &[u8], line: &[u8], w: Words, buffer: &[u8], l
         b'e' => icons::ask(rt, case, cache),
         b'g' => catalogues::list(rt, case, cache, w.a, buffer),
         b'h' => answers::hash(rt, case, script::rest(cache, w.a)),
-        b'j' => notes::check(rt, case, cache),
+        b'j' => image_notes::check(rt, case, cache),
         b'm' => catalogues::write(rt, case, cache, w.a, w.b, buffer),
         b'n' => answers::flags(rt, w.a, w.b),
         b's' => step(rt, case, cache, w.a, w.b),
-        b'v' => notes::view(rt, case, cache, w.a, w.b),
+        b'v' => image_notes::view(rt, case, cache, w.a, w.b),
         b'x' => catalogues::squeeze(rt, case, cache, w.a, buffer),
         b'y' => salvages::save(rt, case, cache, w.a, w.b, buffer),
         _ => {}

@@ -7,8 +7,8 @@ mod answers;
 mod calls;
 mod catalogues;
 mod icons;
+mod image_notes;
 mod images;
-mod notes;
 mod picks;
 mod salvages;
 
