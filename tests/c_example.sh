@@ -3,7 +3,7 @@
 # written.
 set -eu
 cd "$(dirname "$0")/.."
-library=target/staticlib/libicon_cache_c.a
+library=crates/icon_cache_c/out/libicon_cache_c.a
 strict='-Wall -Wextra -Wpedantic -Wconversion -Werror -O2'
 gcc -std=c99 $strict -o "$1/example_c" bindings/c/example.c "$library"
 g++ -std=c++11 $strict -o "$1/example_cpp" -x c++ bindings/c/example.c -x none "$library"

@@ -7,5 +7,5 @@ work=$(mktemp -d)
 trap 'rm -rf "$work"' EXIT
 sed -n '1s/^# //p' "$1" > "$work/wanted"
 [ -s "$work/wanted" ] || { echo "$1 doesn't say what is wanted"; exit 1; }
-sh "$1" | target/bin/check_cache > "$work/printed"
+sh "$1" | crates/check_cache/out/check_cache > "$work/printed"
 diff "$work/wanted" "$work/printed"

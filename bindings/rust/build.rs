@@ -13,7 +13,7 @@ fn main() {
     println!("cargo:rerun-if-changed={}", archive.display());
     if !archive.is_file() {
         eprintln!("error: there is no {}", archive.display());
-        eprintln!("Build the static library first: rt staticlib icon_cache_c");
+        eprintln!("Build the static library first: rt lib, in crates/icon_cache_c");
         eprintln!(
             "If it stands elsewhere, name its folder in {FOLDER}: it must be an absolute path."
         );
@@ -28,7 +28,7 @@ fn folder() -> PathBuf {
         Some(folder) => PathBuf::from(folder),
         None => {
             let package = env::var_os("CARGO_MANIFEST_DIR").expect("cargo names the package");
-            PathBuf::from(package).join("../../target/staticlib")
+            PathBuf::from(package).join("../../crates/icon_cache_c/out")
         }
     }
 }

@@ -3,23 +3,38 @@
 use crate::answers;
 use catalogue::WriteAnswer;
 
-fn say(case: &[u8], call: &[u8], answer: WriteAnswer, lent: &[u8], buffer: &[u8]) {
-    answers::begin(case, call, answer.number, answer.place);
-    answers::count(b", length ", answer.length);
-    answers::count(b", bytes right ", cases_lent::count_same(lent, buffer));
-    answers::end();
+fn say(rt: &impl Print, case: &[u8], call: &[u8], answer: WriteAnswer, lent: &[u8], buffer: &[u8]) {
+    answers::begin(rt, case, call, answer.number, answer.place);
+    answers::count(rt, b", length ", answer.length);
+    answers::count(rt, b", bytes right ", cases_lent::count_same(lent, buffer));
+    answers::end(rt);
 }
 
-fn write_into(case: &[u8], catalogue: &[u8], buckets: usize, lent: &mut [u8], buffer: &[u8]) {
+fn write_into(
+    rt: &impl Print,
+    case: &[u8],
+    catalogue: &[u8],
+    buckets: usize,
+    lent: &mut [u8],
+    buffer: &[u8],
+) {
     let answer = write_cache::write(catalogue, buckets, lent);
-    say(case, b": write ", answer, lent, buffer);
+    say(rt, case, b": write ", answer, lent, buffer);
 }
 
 // Writes a cache with `room` bytes lent, at most 256. Each is a dot beforehand, so that an untouched
 // one shows.
-pub fn write(case: &[u8], catalogue: &[u8], buckets: usize, room: usize, buffer: &[u8]) {
+pub fn write(
+    rt: &impl Print,
+    case: &[u8],
+    catalogue: &[u8],
+    buckets: usize,
+    room: usize,
+    buffer: &[u8],
+) {
     let mut bytes = [46u8; 256];
     write_into(
+        rt,
         case,
         catalogue,
         buckets,
@@ -28,15 +43,16 @@ pub fn write(case: &[u8], catalogue: &[u8], buckets: usize, room: usize, buffer:
     );
 }
 
-fn list_into(case: &[u8], cache: &[u8], lent: &mut [u8], buffer: &[u8]) {
+fn list_into(rt: &impl Print, case: &[u8], cache: &[u8], lent: &mut [u8], buffer: &[u8]) {
     let answer = export::catalogue_of(cache, lent);
-    say(case, b": catalogue ", answer, lent, buffer);
+    say(rt, case, b": catalogue ", answer, lent, buffer);
 }
 
 // Lists a cache as a catalogue in the same way.
-pub fn list(case: &[u8], cache: &[u8], room: usize, buffer: &[u8]) {
+pub fn list(rt: &impl Print, case: &[u8], cache: &[u8], room: usize, buffer: &[u8]) {
     let mut bytes = [46u8; 256];
     list_into(
+        rt,
         case,
         cache,
         cases_lent::front_bytes(&mut bytes, room),
@@ -44,15 +60,16 @@ pub fn list(case: &[u8], cache: &[u8], room: usize, buffer: &[u8]) {
     );
 }
 
-fn squeeze_into(case: &[u8], cache: &[u8], lent: &mut [u8], buffer: &[u8]) {
+fn squeeze_into(rt: &impl Print, case: &[u8], cache: &[u8], lent: &mut [u8], buffer: &[u8]) {
     let answer = squeeze::squeeze(cache, lent);
-    say(case, b": squeeze ", answer, lent, buffer);
+    say(rt, case, b": squeeze ", answer, lent, buffer);
 }
 
 // Squeezes a cache in the same way.
-pub fn squeeze(case: &[u8], cache: &[u8], room: usize, buffer: &[u8]) {
+pub fn squeeze(rt: &impl Print, case: &[u8], cache: &[u8], room: usize, buffer: &[u8]) {
     let mut bytes = [46u8; 256];
     squeeze_into(
+        rt,
         case,
         cache,
         cases_lent::front_bytes(&mut bytes, room),

@@ -2,11 +2,11 @@
 use crate::answers;
 
 // A lookup with `room` words lent, at most 2,048, which are too many to print.
-pub fn lookup(case: &[u8], cache: &[u8], name: &[u8], room: usize) {
+pub fn lookup(rt: &impl Print, case: &[u8], cache: &[u8], name: &[u8], room: usize) {
     let mut words = [7u32; 2048];
     let answer = icon_cache::lookup(cache, name, cases_lent::front(&mut words, room));
-    answers::begin_lookup(case, b": lookup ", answer);
-    answers::count(b", images right ", cases_lent::count_right(&words));
-    answers::count(b", sum of the words ", cases_lent::sum(&words));
-    answers::end();
+    answers::begin_lookup(rt, case, b": lookup ", answer);
+    answers::count(rt, b", images right ", cases_lent::count_right(&words));
+    answers::count(rt, b", sum of the words ", cases_lent::sum(&words));
+    answers::end(rt);
 }

@@ -7,13 +7,12 @@ mod answers;
 mod calls;
 mod catalogues;
 mod icons;
+mod image_notes;
 mod images;
-mod notes;
 mod picks;
 mod salvages;
 
 use cases_made::{Lengths, script};
-use libc::STDIN_FILENO;
 
 // Where the name of the case at hand stands in the script.
 #[derive(Clone, Copy)]
@@ -36,6 +35,7 @@ fn titled(script: &[u8], from: usize, to: usize, before: Title) -> Title {
 
 // Runs one line: at most one of the three knows its word.
 fn run_line(
+    rt: &impl Print,
     case: &[u8],
     line: &[u8],
     cache: &mut [u8],
@@ -45,12 +45,12 @@ fn run_line(
     let words = script::split(line);
     let lengths = cases_made::resize(words, cache, kept, before);
     cases_made::write(line, words, cache);
-    calls::ask(case, line, words, cache, lengths.cache);
+    calls::ask(rt, case, line, words, cache, lengths.cache);
     lengths
 }
 
 // Each line ends with a newline.
-fn run(script: &[u8], cache: &mut [u8], kept: &mut [u8]) {
+fn run(rt: &impl Print, script: &[u8], cache: &mut [u8], kept: &mut [u8]) {
     let mut case = Title { from: 0, to: 0 };
     let mut lengths = Lengths { cache: 0, kept: 0 };
     let mut at = 0;
@@ -61,16 +61,23 @@ fn run(script: &[u8], cache: &mut [u8], kept: &mut [u8]) {
         }
         case = titled(script, at, end, case);
         let name = script::part(script, case.from, case.to);
-        lengths = run_line(name, script::part(script, at, end), cache, kept, lengths);
+        lengths = run_line(
+            rt,
+            name,
+            script::part(script, at, end),
+            cache,
+            kept,
+            lengths,
+        );
         at = end + 1;
     }
 }
 
 // The largest cache of the script has 262,190 bytes.
-fn main() {
+fn main(rt: HostRuntime) {
     let mut script = [0u8; 65536];
-    let n = io::read_full(STDIN_FILENO, &mut script);
+    let n = input::read_full(&mut rt.stdin(), &mut script);
     let mut cache = [0u8; 262400];
     let mut kept = [0u8; 256];
-    run(&script[..n], &mut cache, &mut kept);
+    run(&rt, &script[..n], &mut cache, &mut kept);
 }

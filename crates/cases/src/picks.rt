@@ -7,16 +7,23 @@ fn low(value: usize) -> u32 {
     (value % 4294967296) as u32
 }
 
-fn pick_with(case: &[u8], cache: &[u8], name: &[u8], w: Words, directories: &[u32]) {
+fn pick_with(
+    rt: &impl Print,
+    case: &[u8],
+    cache: &[u8],
+    name: &[u8],
+    w: Words,
+    directories: &[u32],
+) {
     let answer = pick::pick(cache, name, low(w.b), low(w.c), directories);
-    answers::begin(case, b": pick ", answer.number, answer.place);
-    answers::end();
+    answers::begin(rt, case, b": pick ", answer.number, answer.place);
+    answers::end(rt);
 }
 
 // A pick for size `w.b` and scale `w.c` with `w.a` words lent, at most 24.
-pub fn pick(case: &[u8], cache: &[u8], name: &[u8], w: Words, buffer: &[u8]) {
+pub fn pick(rt: &impl Print, case: &[u8], cache: &[u8], name: &[u8], w: Words, buffer: &[u8]) {
     let mut words = [0u32; 24];
     let words = cases_lent::front(&mut words, w.a);
     cases_lent::read(buffer, words);
-    pick_with(case, cache, name, w, words);
+    pick_with(rt, case, cache, name, w, words);
 }

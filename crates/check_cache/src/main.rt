@@ -5,7 +5,6 @@ ghost use Rattle.std.specs.Prelude.{◌≡◌};
 ghost use Rattle.check_cache.specs.Line.{line_of, line_for};
 
 use format::{CheckAnswer, Reading};
-use libc::{STDIN_FILENO, STDOUT_FILENO};
 
 // The largest cache that is judged, in bytes.
 const LARGEST: usize = 65536;
@@ -56,43 +55,48 @@ fn line_for(input: &[u8]) -> Line
     }
 }
 
-fn print_count(before: &[u8], count: usize) {
-    io::write_all(STDOUT_FILENO, before);
-    io::print_decimal(STDOUT_FILENO, count as u64);
+// A write that fails is passed over, and what comes after it is tried all the same.
+fn print_text(rt: &impl Print, text: &[u8]) {
+    let _ = rt.write_all(text);
 }
 
-fn print(line: Line) {
+fn print_count(rt: &impl Print, before: &[u8], count: usize) {
+    print_text(rt, before);
+    let _ = rt.print(count);
+}
+
+fn print(rt: &impl Print, line: Line) {
     match line {
         Line::Accepted {
             icons,
             directories,
             longest,
         } => {
-            print_count(b"accepted ", icons);
-            print_count(b" icons ", directories);
-            print_count(b" directories longest ", longest);
-            io::write_all(STDOUT_FILENO, b"\n");
+            print_count(rt, b"accepted ", icons);
+            print_count(rt, b" icons ", directories);
+            print_count(rt, b" directories longest ", longest);
+            print_text(rt, b"\n");
         }
         Line::Refused {
             number,
             place,
             opened,
         } => {
-            print_count(b"refused ", number as usize);
-            print_count(b" at ", place);
-            print_count(b" opened ", opened);
-            io::write_all(STDOUT_FILENO, b"\n");
+            print_count(rt, b"refused ", number as usize);
+            print_count(rt, b" at ", place);
+            print_count(rt, b" opened ", opened);
+            print_text(rt, b"\n");
         }
         Line::TooLarge => {
-            io::write_all(STDOUT_FILENO, b"too large for this program\n");
+            print_text(rt, b"too large for this program\n");
         }
     }
 }
 
 // One byte more than the largest cache is read, so that a larger one shows. Where a read fails,
 // what came before it is judged as if the input ended there.
-fn main() {
+fn main(rt: HostRuntime) {
     let mut input = [0u8; 65537];
-    let n = io::read_full(STDIN_FILENO, &mut input);
-    print(line_for(&input[..n]));
+    let n = input::read_full(&mut rt.stdin(), &mut input);
+    print(&rt, line_for(&input[..n]));
 }

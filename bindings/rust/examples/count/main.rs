@@ -10,8 +10,8 @@
 //!
 //! ```sh
 //! count='cargo run --offline --quiet --release --example count'
-//! ICON_CACHE_LIB_DIR=/before/target/staticlib $count > before.txt
-//! ICON_CACHE_LIB_DIR=/after/target/staticlib $count > after.txt
+//! ICON_CACHE_LIB_DIR=/before/crates/icon_cache_c/out $count > before.txt
+//! ICON_CACHE_LIB_DIR=/after/crates/icon_cache_c/out $count > after.txt
 //! diff before.txt after.txt
 //! ```
 
