@@ -52,9 +52,9 @@ loop-again : tie.Need-loop-i-preserved invariant-loop decreases-loop
 loop-again c =
     let nz = c.if-byte-eq0.false in
     elim c.if-byte-eq47.branch [
-      lts.then-byte-eq47 w ↦
+      | lts.then-byte-eq47 w ↦
           same-reading w.valid-is w.start-is (next-slash c.loop-i.invariant (omega arith) (omega arith) nz w.if-byte-eq47.true w.valid_to-valid.ensures)
-    | lts.else-byte-eq47 w ↦ same-reading w.valid-is w.start-is (next-byte c.loop-i.invariant (omega arith) (omega arith) nz w.if-byte-eq47.false)
+      | lts.else-byte-eq47 w ↦ same-reading w.valid-is w.start-is (next-byte c.loop-i.invariant (omega arith) (omega arith) nz w.if-byte-eq47.false)
     ]
 
 returns-3 : tie.Need-returns invariant-loop decreases-loop

@@ -25,11 +25,10 @@ write-images-requires c κs =
 
 returns-2 : tie.Need-returns
 unfolding answer_words
-returns-2 c =
-    (
-      rw (images-are c.before.before.before.before.before) (sym (found-enough _ _ _ _ (rw (← (images-are c.before.before.before.before.before)) c.if-words-images.false))),
-      c.write_images.ensures ∙ rw (list_at c.before.before.before.before.before.before),
-    )
+returns-2 c = (
+  rw (images-are c.before.before.before.before.before) (sym (found-enough _ _ _ _ (rw (← (images-are c.before.before.before.before.before)) c.if-words-images.false))),
+  c.write_images.ensures ∙ rw (list_at c.before.before.before.before.before.before),
+)
 
 pub with_images_spec : {M : Type 1} → statement M
 with_images_spec =

@@ -23,11 +23,10 @@ module _ (k : tie.After-close_up-paths) where
       (omega (arith, put.bytes-few, h), omega (arith, put.words-few, h))
 
 chains-requires : tie.Need-chains-sums-requires
-chains-requires c κs =
-    (
-      (c.requires.0, record { room = omega (arith, c.requires.1, valid-header c.requires.0); kept = _; closed = c.close_up-paths.ensures.0 }, omega (arith, c.requires.2)),
-      (omega arith, omega (arith, few c.before.before.before.before.before.before.before.before.before.before), omega (arith, few c.before.before.before.before.before.before.before.before.before.before)),
-    )
+chains-requires c κs = (
+  (c.requires.0, record { room = omega (arith, c.requires.1, valid-header c.requires.0); kept = _; closed = c.close_up-paths.ensures.0 }, omega (arith, c.requires.2)),
+  (omega arith, omega (arith, few c.before.before.before.before.before.before.before.before.before.before), omega (arith, few c.before.before.before.before.before.before.before.before.before.before)),
+)
 
 returns : tie.Need-returns-then-sums-gt65535
 returns c =

@@ -71,11 +71,10 @@ add-requires c κs =
     )
 
 loop-again : tie.Need-loop-step-preserved invariant-loop decreases-loop
-loop-again c =
-    (
-      omega arith,
-      steps_next c.loop-step.invariant.1 (below c.before.before.before.before.before.before.before.before.before.before.before.before.before.before) (next c.before.before.before.before.before.before.before.before.before.before.before.before.before) (c.meet-fault.ensures _ (steps-names c.loop-step.invariant.1)) c.add-so_far.ensures,
-    )
+loop-again c = (
+  omega arith,
+  steps_next c.loop-step.invariant.1 (below c.before.before.before.before.before.before.before.before.before.before.before.before.before.before) (next c.before.before.before.before.before.before.before.before.before.before.before.before.before) (c.meet-fault.ensures _ (steps-names c.loop-step.invariant.1)) c.add-so_far.ensures,
+)
 
 returns-2 : tie.Need-returns-then-cut-eq0 invariant-loop decreases-loop
 returns-2 c =

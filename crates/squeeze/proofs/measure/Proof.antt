@@ -24,11 +24,10 @@ few c =
     (omega (arith, p.most, v), omega (arith, p.few, v))
 
 measure-requires : tie.Need-measure-named-requires
-measure-requires c κs =
-    (
-      (c.requires.0, c.requires.1.marked),
-      (omega (arith, (few c.before.before.before.before.before).0, c.requires.1.index-wide, c.paths-texts.auto), omega (arith, (few c.before.before.before.before.before).0, c.requires.1.places-wide, c.paths-texts.auto), omega (arith, (few c.before.before.before.before.before).1)),
-    )
+measure-requires c κs = (
+  (c.requires.0, c.requires.1.marked),
+  (omega (arith, (few c.before.before.before.before.before).0, c.requires.1.index-wide, c.paths-texts.auto), omega (arith, (few c.before.before.before.before.before).0, c.requires.1.places-wide, c.paths-texts.auto), omega (arith, (few c.before.before.before.before.before).1)),
+)
 
 measure-requires-2 : tie.Need-measure-requires
 measure-requires-2 c κs =

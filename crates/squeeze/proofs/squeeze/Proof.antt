@@ -38,17 +38,16 @@ returns-3 c =
     (c.refusal-then-fault-ne0.ensures ∙ told.0, told.1)
 
 rewrite-requires : tie.Need-rewrite-requires
-rewrite-requires c κs =
-    (
-      sound c.before.before.before.before.before.before.before.before.before.before.before.before.before.before,
-      record {
-        index-wide = omega (arith, length-replicate {A = ℕ} 65536 0, c.mark_repeated.auto);
-        places-wide = length-replicate {A = ℕ} 65536 0;
-        marked = c.mark_repeated.ensures (zeros-unmarked 30720);
-      },
-      omega (arith, same-buckets c.read-t.ensures, c.if-t-gt4096.false),
-      sym (same_number c.image_data-fault.ensures) ∙ c.if-fault-ne0.false,
-    )
+rewrite-requires c κs = (
+  sound c.before.before.before.before.before.before.before.before.before.before.before.before.before.before,
+  record {
+    index-wide = omega (arith, length-replicate {A = ℕ} 65536 0, c.mark_repeated.auto);
+    places-wide = length-replicate {A = ℕ} 65536 0;
+    marked = c.mark_repeated.ensures (zeros-unmarked 30720);
+  },
+  omega (arith, same-buckets c.read-t.ensures, c.if-t-gt4096.false),
+  sym (same_number c.image_data-fault.ensures) ∙ c.if-fault-ne0.false,
+)
 
 pub squeeze_spec : {M : Type 1} → statement M
 squeeze_spec =

@@ -47,12 +47,11 @@ module _ (c : tie.After-take_in-block invariant-loop decreases-loop) where
   less = let some = c.take_in-block.ensures.3 (omega (arith, c.loop-done-test.true)) in omega (arith, few)
 
 look-for-requires : tie.Need-look_for-requires invariant-loop decreases-loop
-look-for-requires c κs =
-    (
-      inside-later _ _ (c.loop-done.done + c.take_in-block.result.names) (at-is c.before.before.before.before.before.before) c.requires.0 (omega (arith, few c.before.before.before.before.before.before)),
-      omega (arith, c.take_in-block.ensures.1),
-      omega (arith, few c.before.before.before.before.before.before),
-    )
+look-for-requires c κs = (
+  inside-later _ _ (c.loop-done.done + c.take_in-block.result.names) (at-is c.before.before.before.before.before.before) c.requires.0 (omega (arith, few c.before.before.before.before.before.before)),
+  omega (arith, c.take_in-block.ensures.1),
+  omega (arith, few c.before.before.before.before.before.before),
+)
 
 loop-again : tie.Need-loop-done-preserved invariant-loop decreases-loop
 loop-again c =

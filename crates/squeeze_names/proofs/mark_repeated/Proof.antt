@@ -38,13 +38,12 @@ module _ (c : tie.After-bucket_field invariant-loop decreases-loop) where
   few = number-few c.requires.0 below c.count-n.ensures c.loop-bucket.invariant.3.passed
 
 chain-requires : tie.Need-chain-requires invariant-loop decreases-loop
-chain-requires c κs =
-    (
-      chain-inside _ _ c.count-n.ensures (field_is c.before.before) (omega (arith, field_is c.before.before, field-inside c.requires.0.tables c.loop-bucket.bucket (below c.before.before))),
-      omega arith,
-      omega (arith, c.requires.1),
-      few c.before.before,
-    )
+chain-requires c κs = (
+  chain-inside _ _ c.count-n.ensures (field_is c.before.before) (omega (arith, field_is c.before.before, field-inside c.requires.0.tables c.loop-bucket.bucket (below c.before.before))),
+  omega arith,
+  omega (arith, c.requires.1),
+  few c.before.before,
+)
 
 loop-again : tie.Need-loop-bucket-preserved invariant-loop decreases-loop
 loop-again c =

@@ -35,15 +35,14 @@ pathed c =
     c.loop-i.invariant.5 _ (puts-same (ap (bytes 4) (same-directories c.requires.0.tables)) c.long-field.ensures)
 
 loop-holds : tie.Need-loop-i-init invariant-loop decreases-loop
-loop-holds c =
-    (
-      refl,
-      refl,
-      refl,
-      omega arith,
-      omega (arith, c.long-field.ensures.next, bytes-length 4 c.args.t.directories),
-      λ lent a. pathed-none c.args.cache.now lent a,
-    )
+loop-holds c = (
+  refl,
+  refl,
+  refl,
+  omega arith,
+  omega (arith, c.long-field.ensures.next, bytes-length 4 c.args.t.directories),
+  λ lent a. pathed-none c.args.cache.now lent a,
+)
 
 path-requires : tie.Need-path-texts-requires invariant-loop decreases-loop
 path-requires c κs =
@@ -53,15 +52,14 @@ path-requires c κs =
     )
 
 loop-again : tie.Need-loop-i-preserved invariant-loop decreases-loop
-loop-again c =
-    (
-      omega arith,
-      omega arith,
-      omega arith,
-      omega arith,
-      omega (arith, c.loop-i.invariant.4),
-      λ lent a. c.path-texts.ensures lent _ _ (c.loop-i.invariant.5 lent a) c.loop-i.invariant.4,
-    )
+loop-again c = (
+  omega arith,
+  omega arith,
+  omega arith,
+  omega arith,
+  omega (arith, c.loop-i.invariant.4),
+  λ lent a. c.path-texts.ensures lent _ _ (c.loop-i.invariant.5 lent a) c.loop-i.invariant.4,
+)
 
 returns : tie.Need-returns invariant-loop decreases-loop
 returns c =

@@ -47,12 +47,11 @@ next-requires c κs =
     (c.requires.0.0, c.requires.0.1, c.loop-item.invariant.1, c.loop-item-test.true)
 
 loop-again : tie.Need-loop-item-preserved invariant-loop decreases-loop
-loop-again c =
-    (
-      omega (arith, c.loop-item.invariant.0, c.icon-end.auto),
-      c.next-item.ensures.0,
-      recorded-at c.next-item.ensures.1 (c.icon-end.ensures _ c.requires.1.1.1 c.loop-item.invariant.2),
-    )
+loop-again c = (
+  omega (arith, c.loop-item.invariant.0, c.icon-end.auto),
+  c.next-item.ensures.0,
+  recorded-at c.next-item.ensures.1 (c.icon-end.ensures _ c.requires.1.1.1 c.loop-item.invariant.2),
+)
 
 returns : tie.Need-returns invariant-loop decreases-loop
 returns c =

@@ -26,22 +26,20 @@ short c =
     omega (arith, c.name_length.ensures, (whole-string 255 (drop c.args.name c.args.cache.now) c.requires.1).within)
 
 returns : tie.Need-returns-in-Found
-returns c =
-    (
-      omega arith,
-      λ at i known named.
-          let entry = found-entry (key_at Ended c.args.cache.now) c.args.index.now c.args.entries c.args.name (is_found c.before) (c.find-spot.ensures.1 known.known.rising) in
-          stores-used c.requires.0 named (maps-met known c.args.name (below c.before) entry) (maps-value known c.args.name (below c.before) entry) refl,
-    )
+returns c = (
+  omega arith,
+  λ at i known named.
+      let entry = found-entry (key_at Ended c.args.cache.now) c.args.index.now c.args.entries c.args.name (is_found c.before) (c.find-spot.ensures.1 known.known.rising) in
+      stores-used c.requires.0 named (maps-met known c.args.name (below c.before) entry) (maps-value known c.args.name (below c.before) entry) refl,
+)
 
 returns-2 : tie.Need-returns-in-Missing
-returns-2 c =
-    (
-      omega (arith, short c),
-      λ at i known named.
-          let between = missing-between (key_at Ended c.args.cache.now) c.args.index.now c.args.entries c.args.name c.in-Missing.is (c.find-spot.ensures.1 known.known.rising) in
-          stores-new c.requires.0 named (maps-missing known c.args.name between) refl (ap (λ n. c.args.end + (n + 1)) c.name_length.ensures),
-    )
+returns-2 c = (
+  omega (arith, short c),
+  λ at i known named.
+      let between = missing-between (key_at Ended c.args.cache.now) c.args.index.now c.args.entries c.args.name c.in-Missing.is (c.find-spot.ensures.1 known.known.rising) in
+      stores-new c.requires.0 named (maps-missing known c.args.name between) refl (ap (λ n. c.args.end + (n + 1)) c.name_length.ensures),
+)
 
 pub store_spec : {M : Type 1} → statement M
 store_spec =

@@ -19,11 +19,10 @@ loop-holds : tie.Need-loop-i-init invariant-loop decreases-loop
 loop-holds c = (omega arith, pass-first _ _ _ _ _)
 
 icon-requires : tie.Need-icon-place-requires invariant-loop decreases-loop
-icon-requires c κs =
-    (
-      entry_kept c.requires.0 c.loop-i.i c.loop-i-test.true,
-      pass-room _ _ _ _ _ c.loop-i.invariant.1 c.loop-i-test.true c.requires.1,
-    )
+icon-requires c κs = (
+  entry_kept c.requires.0 c.loop-i.i c.loop-i-test.true,
+  pass-room _ _ _ _ _ c.loop-i.invariant.1 c.loop-i-test.true c.requires.1,
+)
 
 loop-again : tie.Need-loop-i-preserved invariant-loop decreases-loop
 loop-again c =

@@ -22,12 +22,11 @@ abbrev decreases-loop : tie.decreases-loop-bucket
 decreases-loop cache bucket index₀ n field₀ count₀ step₀ index field count step = length cache - step
 
 loop-holds : tie.Need-loop-bucket-init invariant-loop decreases-loop
-loop-holds c =
-    (
-      refl,
-      stands-first c.requires.0.0 c.requires.0.1 (c.bucket_field-field.ensures ∙ same-field c.requires.0.0.tables c.args.bucket),
-      rw (← reached-first c.args.cache.now c.args.bucket) c.requires.1.0,
-    )
+loop-holds c = (
+  refl,
+  stands-first c.requires.0.0 c.requires.0.1 (c.bucket_field-field.ensures ∙ same-field c.requires.0.0.tables c.args.bucket),
+  rw (← reached-first c.args.cache.now c.args.bucket) c.requires.1.0,
+)
 
 returns : tie.Need-returns-then-record invariant-loop decreases-loop
 returns c =

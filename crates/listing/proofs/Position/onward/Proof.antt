@@ -81,8 +81,8 @@ ended : (c : tie.Joined-after invariant-loop decreases-loop)
     → (chain_of Short c.args.cache.now c.loop-bucket.bucket c.loop-bucket.passed).after ≡ End
 ended c =
     elim c.match-after.branch [
-      lts.in-Record+else-step-ne28 long ↦ reach-ends _ _ _ _ long.reach-step.ensures long.if-step-ne28.false
-    | lts.in-End short ↦ ended-before c.before short.in-End.is
+      | lts.in-Record+else-step-ne28 long ↦ reach-ends _ _ _ _ long.reach-step.ensures long.if-step-ne28.false
+      | lts.in-End short ↦ ended-before c.before short.in-End.is
     ]
 
 loop-again : tie.Need-loop-bucket-preserved invariant-loop decreases-loop

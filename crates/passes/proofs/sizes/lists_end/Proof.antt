@@ -47,12 +47,11 @@ module _ (c : tie.In-loop-i invariant-loop decreases-loop) where
   more = let d = catalogue_in c.args.catalogue.now in ap (λ n. length (lists_up_to d n)) (add-one c.loop-i.i) ∙ length-append (lists_up_to d c.loop-i.i) _
 
 loop-again : tie.Need-loop-i-preserved invariant-loop decreases-loop
-loop-again c =
-    (
-      omega arith,
-      c.icon_end-icon.ensures ∙ ap (icon_end _) c.loop-i.invariant.1 ∙ sym (end-next (icon_end _) c.loop-i.i _) ∙ rw add-one,
-      omega (arith, c.list_size-end.ensures.0, size c.before.before, more c.before.before, c.loop-i.invariant.2),
-    )
+loop-again c = (
+  omega arith,
+  c.icon_end-icon.ensures ∙ ap (icon_end _) c.loop-i.invariant.1 ∙ sym (end-next (icon_end _) c.loop-i.i _) ∙ rw add-one,
+  omega (arith, c.list_size-end.ensures.0, size c.before.before, more c.before.before, c.loop-i.invariant.2),
+)
 
 returns : tie.Need-returns invariant-loop decreases-loop
 returns c =

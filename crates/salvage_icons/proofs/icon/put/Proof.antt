@@ -22,11 +22,10 @@ name-length-requires c κs =
     ap (λ p. is_whole (extent 255 (drop p c.args.cache.now))) c.u32_at-name.ensures ∙ c.requires.2.named
 
 text-requires : tie.Need-text-images_at-requires
-text-requires c κs =
-    (
-      name-inside (read c.before.before.before.before.before) c.requires.2,
-      omega (arith, name-short (read c.before.before.before.before.before) c.requires.2, c.byte-name_at.ensures.next, bytes-length 1 c.name_length-size.result, c.requires.3),
-    )
+text-requires c κs = (
+  name-inside (read c.before.before.before.before.before) c.requires.2,
+  omega (arith, name-short (read c.before.before.before.before.before) c.requires.2, c.byte-name_at.ensures.next, bytes-length 1 c.name_length-size.result, c.requires.3),
+)
 
 -- where the images go
 images-at : (c : tie.After-text-images_at) → c.text-images_at.result ≤ c.args.at + 256
