@@ -6,7 +6,6 @@ use mathlib.Core.Logic.{⊎_elim}
 use mathlib.Core.List.{List}
 use native.Mathlib.Omega.{arith}
 use borrow.Author.Rules.{rules}
-use borrow.Author.Tests.{ltb-true}
 use lib.ListN.{length}
 use Rattle.format.proofs.Laws.Links.{Repeat}
 use Rattle.tables.specs.Laws.{valid-header}

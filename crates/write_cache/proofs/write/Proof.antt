@@ -5,7 +5,7 @@ use mathlib.Core.Logic.{⊎_elim, inl, inr}
 use mathlib.Core.Bool.{true}
 use native.Mathlib.Omega.{arith}
 use borrow.Author.Rules.{rules}
-use borrow.Author.Tests.{ltb-true, ltb-false}
+use borrow.Author.Tests.{ltb-false}
 use Rattle.format.specs.declared.Fault.{Fault}
 use Rattle.format.proofs.Laws.Faults.{same_number}
 use Rattle.catalogue.specs.Fields.{AreBytes, catalogue_in}
