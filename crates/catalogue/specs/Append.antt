@@ -1,7 +1,6 @@
 -- How the chains of a written cache come about: the writer takes the icons in order, and appends
 -- each to the chain of its bucket, of which it remembers the last record. Document 02, request 8.
-use Rattle.std.specs.Prelude.{ℕ, zero, suc, List, ◌++◌, eqb}
-use Rattle.format.specs.Choice.{if◌then◌else◌}
+use Rattle.std.specs.Prelude.{ℕ, zero, suc, List, ◌++◌, eqb, if◌then◌else◌}
 use Rattle.format.specs.Layout.{header_size, entry_field, chain_field, end_value}
 use Rattle.format.specs.Bytes.{bytes}
 use Rattle.catalogue.specs.Catalogue.{Catalogue}

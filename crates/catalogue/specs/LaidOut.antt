@@ -1,9 +1,8 @@
 -- When a buffer is a cache of a catalogue, wherever its parts stand: document 01, 'The layout', and
 -- document 02, request 8. A written cache is one, and so is one in which equal strings and lists
 -- stand once; it is not asked that parts are apart.
-use Rattle.std.specs.Prelude.{ℕ, zero, suc, ◌-◌, ◌≤◌, ◌<◌, ◌%◌, ◌≡◌, length, drop, get_or, eqb}
+use Rattle.std.specs.Prelude.{ℕ, zero, suc, ◌-◌, ◌≤◌, ◌<◌, ◌%◌, ◌≡◌, length, drop, get_or, eqb, if◌then◌else◌}
 use mathlib.Core.List.{List, [], ◌∷◌, ◌++◌, flat_map}
-use Rattle.format.specs.Choice.{if◌then◌else◌}
 use Rattle.format.specs.Layout.{end_value, most_bytes}
 use Rattle.format.specs.Bytes.{bytes, joined}
 use Rattle.format.specs.String.{hash}

@@ -1,7 +1,6 @@
 -- The catalogue that an accepted cache is listed as: its paths by index, and its icons by rising
 -- record offset, with their images as they stand. Document 02, request 8.
-use Rattle.std.specs.Prelude.{ℕ, zero, suc, List, [], ◌∷◌, ◌++◌, map, Bool, false, ◌||◌, length, eqb}
-use Rattle.format.specs.Choice.{if◌then◌else◌}
+use Rattle.std.specs.Prelude.{ℕ, zero, suc, List, [], ◌∷◌, ◌++◌, map, Bool, false, ◌||◌, length, eqb, if◌then◌else◌}
 use Rattle.format.specs.Layout.{name_field, entries_at}
 use Rattle.format.specs.Header.{directories, path_of}
 use Rattle.format.specs.Record.{name_of, images_at, images}

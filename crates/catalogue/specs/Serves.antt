@@ -1,8 +1,7 @@
 -- What a cache does that lays out a catalogue: the check accepts it, a lookup gives each name its
 -- images, and knows no other name. Document 02, requests 8 and 9.
-use Rattle.std.specs.Prelude.{ℕ, zero, suc, ◌+◌, ◌*◌, ◌≤◌, ◌<◌, ◌≡◌, true, length, drop, eqb}
+use Rattle.std.specs.Prelude.{ℕ, zero, suc, ◌+◌, ◌*◌, ◌≤◌, ◌<◌, ◌≡◌, true, length, drop, eqb, if◌then◌else◌}
 use mathlib.Core.List.{List, [], ◌∷◌, ◌++◌, flat_map}
-use Rattle.format.specs.Choice.{if◌then◌else◌}
 use Rattle.format.specs.String.{allowed}
 use Rattle.format.specs.Answer.{looked_up, accepted}
 use Rattle.format.specs.Call.{check, lookup, lookup_words}

@@ -1,6 +1,5 @@
 -- The line that the check program prints.
-use Rattle.std.specs.Prelude.{ℕ, List, length, ltb, eqb}
-use Rattle.format.specs.Choice.{if◌then◌else◌}
+use Rattle.std.specs.Prelude.{ℕ, List, length, ltb, eqb, if◌then◌else◌}
 use Rattle.format.specs.Call.{check}
 use Rattle.format.specs.declared.CheckAnswer.{CheckAnswer}
 use Rattle.format.specs.declared.Reading.TheVariants.{Short}

@@ -1,6 +1,5 @@
 -- What each call answers, and what it leaves in the lent words: document 01, 'Answer numbers'.
-use Rattle.std.specs.Prelude.{ℕ, zero, suc, ◌+◌, ◌-◌, ◌*◌, List, [], ◌∷◌, ◌++◌, length, drop, ltb, leb}
-use Rattle.format.specs.Choice.{if◌then◌else◌}
+use Rattle.std.specs.Prelude.{ℕ, zero, suc, ◌+◌, ◌-◌, ◌*◌, List, [], ◌∷◌, ◌++◌, length, drop, ltb, leb, if◌then◌else◌}
 use Rattle.format.specs.Layout.{entries_at}
 use Rattle.format.specs.Number.{be}
 use Rattle.format.specs.Fault.{unless, ◌or_else◌, if_kept}

@@ -3,7 +3,6 @@
 --
 -- A letter means one thing: s a buffer, k a bucket, r a record (its offset), f a field (its
 -- offset), x a rule's number, p a place or another offset, o opened records, v a judgement.
-pub mod Choice
 pub mod Layout
 pub mod Number
 pub mod Bytes

@@ -1,7 +1,6 @@
 -- What is broken first behind an IMAGE_DATA_OFFSET: rules 22 to 24, part by part in source document
 -- 000's order (request 10).
-use Rattle.std.specs.Prelude.{ℕ, List, Bool, ◌&&◌, drop, leb, eqb}
-use Rattle.format.specs.Choice.{if◌then◌else◌}
+use Rattle.std.specs.Prelude.{ℕ, List, Bool, ◌&&◌, drop, leb, eqb, if◌then◌else◌}
 use Rattle.format.specs.Layout.{entries_at, image_size, data_field}
 use Rattle.format.specs.Number.{be}
 use Rattle.format.specs.Part.{inside, list_inside}

@@ -1,7 +1,6 @@
 -- An icon record and its images: document 01's tables, and requests 7 and 10. Rules 8 to 11 and 17,
 -- and in the long reading what is behind the images.
-use Rattle.std.specs.Prelude.{ℕ, zero, suc, ◌+◌, ◌*◌, ◌%◌, List, [], ◌∷◌, Bool, ◌&&◌, drop, ltb, leb, eqb}
-use Rattle.format.specs.Choice.{if◌then◌else◌}
+use Rattle.std.specs.Prelude.{ℕ, zero, suc, ◌+◌, ◌*◌, ◌%◌, List, [], ◌∷◌, Bool, ◌&&◌, drop, ltb, leb, eqb, if◌then◌else◌}
 use Rattle.format.specs.Layout.{entries_at, name_field, images_field, image_size, index_field, flags_field, data_field, most_images, longest_name, most_flags, no_directory}
 use Rattle.format.specs.Number.{be}
 use Rattle.format.specs.Part.{list_inside}

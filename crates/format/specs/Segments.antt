@@ -1,7 +1,6 @@
 -- The segments of a path, and which of them it may not have: document 02, request 4. What a path by
 -- itself may be: request 8.
-use Rattle.std.specs.Prelude.{ℕ, List, [], ◌∷◌, Bool, true, not, ◌&&◌, get_or, eqb}
-use Rattle.format.specs.Choice.{if◌then◌else◌}
+use Rattle.std.specs.Prelude.{ℕ, List, [], ◌∷◌, Bool, true, not, ◌&&◌, get_or, eqb, if◌then◌else◌}
 use Rattle.format.specs.Layout.{longest_path}
 use Rattle.format.specs.String.{same_bytes, text_within}
 

@@ -1,7 +1,6 @@
 -- Strings, and the hash of a name: document 01, 'The layout', and requests 1 and 7. A string is
 -- given by the part of the buffer from its offset on.
-use Rattle.std.specs.Prelude.{ℕ, zero, suc, ◌+◌, ◌-◌, ◌*◌, ◌%◌, ◌^◌, List, [], ◌∷◌, map, Bool, true, false, ◌&&◌, ◌||◌, length, ltb, leb, eqb}
-use Rattle.format.specs.Choice.{if◌then◌else◌}
+use Rattle.std.specs.Prelude.{ℕ, zero, suc, ◌+◌, ◌-◌, ◌*◌, ◌%◌, ◌^◌, List, [], ◌∷◌, map, Bool, true, false, ◌&&◌, ◌||◌, length, ltb, leb, eqb, if◌then◌else◌}
 use Rattle.format.specs.Layout.{longest_name}
 use Rattle.format.specs.Fault.{fault, no_fault}
 use Rattle.format.specs.declared.Fault.{Fault}

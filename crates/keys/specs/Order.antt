@@ -1,6 +1,5 @@
 -- The order of keys, which are lists of numbers: byte by byte.
-use Rattle.std.specs.Prelude.{ℕ, List, [], ◌∷◌, ltb}
-use Rattle.format.specs.Choice.{if◌then◌else◌}
+use Rattle.std.specs.Prelude.{ℕ, List, [], ◌∷◌, ltb, if◌then◌else◌}
 use Rattle.keys.specs.declared.Ordering.{Ordering}
 use Rattle.keys.specs.declared.Ordering.TheVariants.{Less, Equal, Greater}
 

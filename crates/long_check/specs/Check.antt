@@ -1,6 +1,5 @@
 -- What the short check's answer says of the long one's.
-use Rattle.std.specs.Prelude.{ℕ, ◌+◌, ◌-◌, ◌≤◌, ◌<◌, ◌≡◌, List, eqb}
-use Rattle.format.specs.Choice.{if◌then◌else◌}
+use Rattle.std.specs.Prelude.{ℕ, ◌+◌, ◌-◌, ◌≤◌, ◌<◌, ◌≡◌, List, eqb, if◌then◌else◌}
 use Rattle.format.specs.Chain.{itself}
 use Rattle.format.specs.Call.{check}
 use Rattle.format.specs.Words.{TablesKept, Region, sum}

@@ -1,6 +1,5 @@
 -- An index: offsets, in rising order of their keys. `key` says what the key of an offset is.
-use Rattle.std.specs.Prelude.{ℕ, ◌+◌, ◌≤◌, ◌<◌, ◌≡◌, ◌↔◌, List, ◌∷◌, Bool, true, get_or}
-use Rattle.format.specs.Choice.{if◌then◌else◌}
+use Rattle.std.specs.Prelude.{ℕ, ◌+◌, ◌≤◌, ◌<◌, ◌≡◌, ◌↔◌, List, ◌∷◌, Bool, true, get_or, if◌then◌else◌}
 use Rattle.format.specs.String.{among}
 use Rattle.keys.specs.declared.Ordering.TheVariants.{Less}
 use Rattle.names.specs.declared.Spot.{Spot}

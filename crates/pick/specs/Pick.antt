@@ -1,7 +1,6 @@
 -- Which image of an icon serves a screen of a size and a scale, and what `pick` answers: document
 -- 02, request 6, with source document 002's keys of a directory.
-use Rattle.std.specs.Prelude.{ℕ, zero, suc, ◌+◌, ◌-◌, ◌*◌, List, Bool, false, ◌&&◌, length, get_or, leb, eqb}
-use Rattle.format.specs.Choice.{if◌then◌else◌}
+use Rattle.std.specs.Prelude.{ℕ, zero, suc, ◌+◌, ◌-◌, ◌*◌, List, Bool, false, ◌&&◌, length, get_or, leb, eqb, if◌then◌else◌}
 use Rattle.format.specs.Layout.{entries_at, image_size, index_field, no_directory}
 use Rattle.format.specs.Number.{be}
 use Rattle.format.specs.Fault.{fault, unless, ◌or_else◌, if_kept, first_fault, step_on}

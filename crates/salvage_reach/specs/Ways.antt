@@ -1,7 +1,6 @@
 -- What a field of a chain holds for the walk, and what is known of a chain once it is known how it
 -- goes.
-use Rattle.std.specs.Prelude.{ℕ, ◌+◌, ◌*◌, ◌<◌, ◌≤◌, ◌≡◌, List, eqb, length}
-use Rattle.format.specs.Choice.{if◌then◌else◌}
+use Rattle.std.specs.Prelude.{ℕ, ◌+◌, ◌*◌, ◌<◌, ◌≤◌, ◌≡◌, List, eqb, length, if◌then◌else◌}
 use Rattle.format.specs.Layout.{end_value}
 use Rattle.format.specs.Number.{be}
 use Rattle.format.specs.Record.{name_fault}

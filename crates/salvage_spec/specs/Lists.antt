@@ -1,7 +1,6 @@
 -- The first number that fails a test, the elements that pass one, and what holds of any two of a
 -- list.
-use Rattle.std.specs.Prelude.{ℕ, zero, suc, List, [], ◌∷◌, ◌++◌, Bool, true, false}
-use Rattle.format.specs.Choice.{if◌then◌else◌}
+use Rattle.std.specs.Prelude.{ℕ, zero, suc, List, [], ◌∷◌, ◌++◌, Bool, true, false, if◌then◌else◌}
 use Rattle.catalogue.specs.Catalogue.{Each}
 
 -- the first number from n on at which the test fails, looked for m times

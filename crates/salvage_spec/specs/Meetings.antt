@@ -1,8 +1,7 @@
 -- The walk of a chain as salvage makes it: how far it goes, what becomes of each record that it
 -- meets, and the row that it ends with. Document 02, request 11. A meeting is a bucket and a step
 -- on its chain; the record met is the one that `link` names there.
-use Rattle.std.specs.Prelude.{ℕ, zero, suc, List, [], ◌∷◌, Bool, true, false, not, ◌&&◌, ◌||◌, eqb}
-use Rattle.format.specs.Choice.{if◌then◌else◌}
+use Rattle.std.specs.Prelude.{ℕ, zero, suc, List, [], ◌∷◌, Bool, true, false, not, ◌&&◌, ◌||◌, eqb, if◌then◌else◌}
 use Rattle.format.specs.Layout.{record_size, name_field, images_field, end_value}
 use Rattle.format.specs.Bytes.{joined}
 use Rattle.format.specs.Part.{inside}

@@ -1,7 +1,6 @@
 -- What salvage makes of a buffer that passes rules 1 to 5: the catalogue of what is kept, and the
 -- report of what went, both in the order met. Document 02, request 11.
-use Rattle.std.specs.Prelude.{ℕ, ◌+◌, ◌*◌, List, [], ◌∷◌, ◌++◌, not, length, eqb}
-use Rattle.format.specs.Choice.{if◌then◌else◌}
+use Rattle.std.specs.Prelude.{ℕ, ◌+◌, ◌*◌, List, [], ◌∷◌, ◌++◌, not, length, eqb, if◌then◌else◌}
 use Rattle.format.specs.Layout.{entries_at, image_size, index_field, flags_field, data_field}
 use Rattle.format.specs.Number.{be}
 use Rattle.format.specs.Bytes.{joined}

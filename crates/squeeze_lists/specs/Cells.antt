@@ -1,8 +1,7 @@
 -- A table of where the list of each icon is stored, filled block by block; and the lists that are
 -- new from one icon on.
-use Rattle.std.specs.Prelude.{ℕ, zero, suc, ◌+◌, List, [], ◌∷◌, ltb}
+use Rattle.std.specs.Prelude.{ℕ, zero, suc, ◌+◌, List, [], ◌∷◌, ltb, if◌then◌else◌}
 use Rattle.format.specs.Bytes.{bytes, joined}
-use Rattle.format.specs.Choice.{if◌then◌else◌}
 use Rattle.format.specs.Layout.{end_value}
 use Rattle.squeeze_spec.specs.Uses.{first_use, is_first, place_of}
 

@@ -1,6 +1,5 @@
 -- Which names come again, as marks, while the names of a chain are taken in and looked for.
-use Rattle.std.specs.Prelude.{ℕ, ◌+◌, ◌/◌, ◌≤◌, ◌<◌, ◌≡◌, ◌⊎◌, List, Bool, true, false, not, ◌||◌, ltb, length}
-use Rattle.format.specs.Choice.{if◌then◌else◌}
+use Rattle.std.specs.Prelude.{ℕ, ◌+◌, ◌/◌, ◌≤◌, ◌<◌, ◌≡◌, ◌⊎◌, List, Bool, true, false, not, ◌||◌, ltb, length, if◌then◌else◌}
 use Rattle.format.specs.String.{among}
 use Rattle.format.specs.Chain.{all_records, nth_name}
 use Rattle.format.specs.declared.Reading.TheVariants.{Short}

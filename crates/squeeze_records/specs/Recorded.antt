@@ -1,7 +1,6 @@
 -- The records and the names of a squeezed cache, icon by icon.
-use Rattle.std.specs.Prelude.{ℕ, suc, ◌+◌, ◌-◌, ◌*◌, ◌≤◌, ◌<◌, ◌≡◌, List, length, eqb}
+use Rattle.std.specs.Prelude.{ℕ, suc, ◌+◌, ◌-◌, ◌*◌, ◌≤◌, ◌<◌, ◌≡◌, List, length, eqb, if◌then◌else◌}
 use Rattle.format.specs.Bytes.{bytes, put}
-use Rattle.format.specs.Choice.{if◌then◌else◌}
 use Rattle.format.specs.Header.{buckets, directories}
 use Rattle.format.specs.Layout.{end_value, header_size, entry_field}
 use Rattle.catalogue.specs.LaidOut.{Stands, Places, icon_bucket}

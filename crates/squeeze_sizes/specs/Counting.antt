@@ -1,7 +1,6 @@
 -- What is counted of the lists of the icons from icon a on: those up to some icon are in the index,
 -- and each that comes again behind it has a 1 beside it and counts no more.
-use Rattle.std.specs.Prelude.{ℕ, ◌+◌, ◌-◌, ◌*◌, ◌≤◌, ◌<◌, ◌≡◌, List, length, get_or, set}
-use Rattle.format.specs.Choice.{if◌then◌else◌}
+use Rattle.std.specs.Prelude.{ℕ, ◌+◌, ◌-◌, ◌*◌, ◌≤◌, ◌<◌, ◌≡◌, List, length, get_or, set, if◌then◌else◌}
 use Rattle.format.specs.Number.{be}
 use Rattle.format.specs.String.{among}
 use Rattle.keys.specs.Key.{key_at}

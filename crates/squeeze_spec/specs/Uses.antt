@@ -1,7 +1,6 @@
 -- Parts that are stored once: each at its first use, that is at the first part that has the same
 -- key.
-use Rattle.std.specs.Prelude.{ℕ, zero, suc, List, [], Bool, true, false, length, ltb, eqb}
-use Rattle.format.specs.Choice.{if◌then◌else◌}
+use Rattle.std.specs.Prelude.{ℕ, zero, suc, List, [], Bool, true, false, length, ltb, eqb, if◌then◌else◌}
 use Rattle.format.specs.String.{same_bytes}
 use Rattle.format.specs.Bytes.{joined}
 

@@ -1,7 +1,6 @@
 -- Where the two tables of a cache stand and how many entries they have, and the fields of their
 -- entries.
-use Rattle.std.specs.Prelude.{ℕ, ◌≡◌, List, length}
-use Rattle.format.specs.Choice.{if◌then◌else◌}
+use Rattle.std.specs.Prelude.{ℕ, ◌≡◌, List, length, if◌then◌else◌}
 use Rattle.format.specs.Layout.{field_size, entry_field}
 use Rattle.format.specs.Number.{be}
 use Rattle.format.specs.Part.{list_inside}

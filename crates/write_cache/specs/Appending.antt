@@ -1,6 +1,5 @@
 -- What the records of a cache are put by, and when it may be written.
-use Rattle.std.specs.Prelude.{ℕ, ◌%◌, ◌≤◌, ◌<◌, ◌≡◌, List, length, eqb}
-use Rattle.format.specs.Choice.{if◌then◌else◌}
+use Rattle.std.specs.Prelude.{ℕ, ◌%◌, ◌≤◌, ◌<◌, ◌≡◌, List, length, eqb, if◌then◌else◌}
 use Rattle.format.specs.Layout.{header_size, entry_field, chain_field, end_value}
 use Rattle.format.specs.Bytes.{put}
 use Rattle.format.specs.String.{hash}

@@ -2,13 +2,12 @@
 -- bucket's where the writer remembers no record of the bucket, and else the CHAIN_OFFSET of the
 -- record that it remembers.
 use Prim.Native.Nat.{ℕ, zero, suc, ◌+◌, ◌-◌, ◌≤◌, ◌<◌}
-use Rattle.std.specs.Prelude.{◌≡◌, Bool, true, false, eqb}
+use Rattle.std.specs.Prelude.{◌≡◌, Bool, true, false, eqb, if◌then◌else◌}
 use Rattle.std.proofs.Math.Path.{refl, sym}
 use Rattle.std.proofs.Common.{ap, ◌∙◌, eqb-true}
 use Rattle.std.proofs.Math.Decide.{ℕ_discrete}
 use native.Mathlib.Omega.{arith}
 use Rattle.std.proofs.lemmas.Bool.{eqb-false}
-use Rattle.format.specs.Choice.{if◌then◌else◌}
 use Rattle.format.specs.Layout.{end_value}
 use Rattle.catalogue.specs.LaidOut.{first_in}
 use Rattle.catalogue.specs.Append.{last_in}

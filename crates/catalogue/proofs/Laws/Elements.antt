@@ -1,7 +1,7 @@
 -- What holds of each element: of the first n that a function gives, of a rising order, and of what
 -- a function makes of a list.
 use Prim.Native.Nat.{ℕ, zero, suc, ◌≤◌, ◌<◌}
-use Rattle.std.specs.Prelude.{◌≡◌, Bool, ◌||◌, length, get_or, eqb}
+use Rattle.std.specs.Prelude.{◌≡◌, Bool, ◌||◌, length, get_or, eqb, if◌then◌else◌}
 use Rattle.std.proofs.Math.Path.{refl}
 use Rattle.std.proofs.Common.{sym, ap, ◌∙◌, arith, eqb-true, length-append}
 use mathlib.Core.List.{List, [], ◌∷◌, ◌++◌, map}
@@ -9,7 +9,6 @@ use Rattle.std.proofs.Math.Bool.{true, false}
 use Rattle.std.proofs.Math.Decide.{ℕ_discrete}
 use Rattle.std.proofs.Math.ListN.{get_or-append}
 use Rattle.std.proofs.lemmas.List.{get_or_at}
-use Rattle.format.specs.Choice.{if◌then◌else◌}
 use Rattle.catalogue.specs.Catalogue.{Each}
 use Rattle.catalogue.specs.Listed.{has, rising, firsts}
 use Rattle.catalogue.proofs.Laws.Allowed.{each_at}

@@ -1,11 +1,10 @@
 -- One icon more: its record is put behind the others, and one field is changed. So the records of
 -- all icons come about, one by one.
 use Prim.Native.Nat.{ℕ, suc, ◌+◌, ◌*◌, ◌≤◌, ◌<◌}
-use Rattle.std.specs.Prelude.{◌≡◌, List, ◌++◌, length}
+use Rattle.std.specs.Prelude.{◌≡◌, List, ◌++◌, length, if◌then◌else◌}
 use Rattle.std.proofs.Common.{sym, ◌∙◌, mod-lt, arith, ne_eqb, length-append, lit≤}
 use Rattle.std.proofs.Math.Path.{ap}
 use Rattle.std.proofs.Math.Dec.{eqb}
-use Rattle.format.specs.Choice.{if◌then◌else◌}
 use Rattle.format.specs.Layout.{entry_field, end_value}
 use Rattle.format.specs.Bytes.{bytes, joined, put}
 use Rattle.format.specs.String.{hash}

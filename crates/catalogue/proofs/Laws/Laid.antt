@@ -1,9 +1,8 @@
 -- What the fields hold of a cache that lays out a good catalogue: each names the part that stands
 -- there.
-use Rattle.std.specs.Prelude.{ℕ, zero, suc, ◌+◌, ◌-◌, ◌*◌, ◌^◌, ◌≤◌, ◌<◌, ◌≡◌, Bool, true, false, length, eqb}
+use Rattle.std.specs.Prelude.{ℕ, zero, suc, ◌+◌, ◌-◌, ◌*◌, ◌^◌, ◌≤◌, ◌<◌, ◌≡◌, Bool, true, false, length, eqb, if◌then◌else◌}
 use Rattle.std.proofs.Common.{◌∙◌, arith, length-append, lit≤}
 use mathlib.Core.List.{List, [], ◌∷◌, ◌++◌, flat_map}
-use Rattle.format.specs.Choice.{if◌then◌else◌}
 use Rattle.format.specs.Number.{be}
 use Rattle.format.specs.Header.{buckets_at, buckets, directories_at, directories, bucket_field, path_field}
 use Rattle.format.specs.Bytes.{bytes}

@@ -1,12 +1,11 @@
 -- What a field leads to on a chain: the end, a broken rule, or a record that keeps the rules; and
 -- how a chain goes on from there.
 use Prim.Native.Nat.{ℕ, zero, suc, ◌+◌, ◌≤◌, ◌<◌, zero-le, suc-le-suc}
-use Rattle.std.specs.Prelude.{◌≡◌, List, [], ◌∷◌, Bool, true, false, length, eqb}
+use Rattle.std.specs.Prelude.{◌≡◌, List, [], ◌∷◌, Bool, true, false, length, eqb, if◌then◌else◌}
 use Rattle.std.proofs.Math.Path.{refl}
 use Rattle.std.proofs.Common.{sym, ◌∙◌, arith}
 use Rattle.std.proofs.Math.Decide.{ℕ_discrete}
 use borrow.Author.Tests.{eq-eqb, ne_eqb, le-leb, lt-leb, leb-true}
-use Rattle.format.specs.Choice.{if◌then◌else◌}
 use Rattle.format.specs.Layout.{record_size, end_value}
 use Rattle.format.specs.Number.{be}
 use Rattle.format.specs.Part.{inside}

@@ -1,8 +1,7 @@
 -- What a byte counts as, that the hash of a name goes on from 0 byte by byte, and the bucket that
 -- it gives.
-use Rattle.std.specs.Prelude.{ℕ, suc, ◌+◌, ◌-◌, ◌*◌, ◌%◌, ◌^◌, ◌<◌, ◌≡◌, refl, List, [], ◌∷◌, map, Bool, true, false, ◌&&◌, length, take, get_or, T, ltb, eqb}
+use Rattle.std.specs.Prelude.{ℕ, suc, ◌+◌, ◌-◌, ◌*◌, ◌%◌, ◌^◌, ◌<◌, ◌≡◌, refl, List, [], ◌∷◌, map, Bool, true, false, ◌&&◌, length, take, get_or, T, ltb, eqb, if◌then◌else◌}
 use Rattle.std.proofs.Common.{ap, arith, lt-ltb, ltb-true, ltb-false, take_all}
-use Rattle.format.specs.Choice.{if◌then◌else◌}
 use Rattle.format.specs.String.{string, signed, hash_from, hash_numbers, hash, allowed}
 use Rattle.format.specs.Header.{buckets}
 use Rattle.format.specs.Record.{bucket_of}

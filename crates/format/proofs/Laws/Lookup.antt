@@ -1,13 +1,12 @@
 -- A lookup: what is judged before the search, what the search answers, and the images of the record
 -- that is found.
 use Prim.Native.Nat.{ℕ, suc, ◌-◌, ◌*◌, ◌≤◌, ◌<◌}
-use Rattle.std.specs.Prelude.{◌≡◌, List, ◌∷◌, Bool, length, leb}
+use Rattle.std.specs.Prelude.{◌≡◌, List, ◌∷◌, Bool, length, leb, if◌then◌else◌}
 use Rattle.std.proofs.Math.Path.{refl}
 use Rattle.std.proofs.Math.Bool.{true, false}
 use Rattle.std.proofs.Math.Decide.{ℕ_discrete}
 use native.Mathlib.Omega.{arith}
 use borrow.Author.Tests.{le-leb, lt-leb}
-use Rattle.format.specs.Choice.{if◌then◌else◌}
 use Rattle.format.specs.Fault.{fault}
 use Rattle.format.specs.String.{allowed}
 use Rattle.format.specs.Header.{header_fault}

@@ -1,9 +1,8 @@
 -- Rules 22 to 24: which is broken first behind a field.
 use Prim.Native.Nat.{ℕ}
-use Rattle.std.specs.Prelude.{◌≡◌, List, Bool, true, false}
+use Rattle.std.specs.Prelude.{◌≡◌, List, Bool, true, false, if◌then◌else◌}
 use Rattle.std.proofs.Common.{◌∙◌, arith, eq-eqb, ne_eqb}
 use Rattle.format.specs.Fault.{fault, no_fault, unless, ◌or_else◌}
-use Rattle.format.specs.Choice.{if◌then◌else◌}
 use Rattle.format.specs.Number.{be}
 use Rattle.format.specs.Part.{inside}
 use Rattle.format.specs.ImageData.{image_data_size, pixel_data_field, meta_data_field, there}

@@ -1,10 +1,9 @@
 -- The numbers of the rules on tables and records, which of the rules on tables is broken first, and
 -- what a record that keeps the rules tells.
-use Rattle.std.specs.Prelude.{ℕ, ◌+◌, ◌*◌, ◌≤◌, ◌≡◌, List, Bool, true, false, length}
+use Rattle.std.specs.Prelude.{ℕ, ◌+◌, ◌*◌, ◌≤◌, ◌≡◌, List, Bool, true, false, length, if◌then◌else◌}
 use Rattle.std.proofs.Math.Path.{refl}
 use Rattle.std.proofs.Common.{sym, ◌∙◌, leb-true}
 use Rattle.std.proofs.Math.Bool.{and-eq-true_iff}
-use Rattle.format.specs.Choice.{if◌then◌else◌}
 use Rattle.format.specs.Layout.{entries_at}
 use Rattle.format.specs.Fault.{no_fault, ◌or_else◌}
 use Rattle.format.specs.String.{is_whole}

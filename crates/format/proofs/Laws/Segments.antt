@@ -1,11 +1,10 @@
 -- Laws of a path's segments: that each is judged where it ends, and that they are the path cut at
 -- its slashes.
-use Rattle.std.specs.Prelude.{ℕ, zero, suc, ◌≡◌, refl, List, [], ◌∷◌, ◌++◌, Bool, true, false, ◌&&◌, eqb, get_or}
+use Rattle.std.specs.Prelude.{ℕ, zero, suc, ◌≡◌, refl, List, [], ◌∷◌, ◌++◌, Bool, true, false, ◌&&◌, eqb, get_or, if◌then◌else◌}
 use Rattle.std.proofs.Common.{ap, sym, ◌∙◌, append-nil, arith, eq-eqb, ne_eqb}
 use Rattle.std.proofs.Math.Bool.{and_assoc, and-true}
 use Rattle.std.proofs.Math.Decide.{ℕ_discrete}
 use Rattle.std.proofs.lemmas.Bool.{eqb-false}
-use Rattle.format.specs.Choice.{if◌then◌else◌}
 use Rattle.format.specs.Segments.{slash, first_segment, later_segments, segments, valid_segment, all_valid, valid_segments}
 
 -- the segments of two paths with a slash between them are those of the one and then those of the

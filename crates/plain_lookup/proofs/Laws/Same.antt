@@ -1,10 +1,9 @@
 -- Why both lookups answer alike: in an accepted cache each record stands in its name's bucket, so no
 -- other bucket has a record that bears the name, and of those in it the first is the same.
 use Prim.Native.Nat.{ℕ, ◌+◌, ◌*◌, ◌<◌}
-use Rattle.std.specs.Prelude.{◌≡◌, refl, List, Bool, true, false, length, leb}
+use Rattle.std.specs.Prelude.{◌≡◌, refl, List, Bool, true, false, length, leb, if◌then◌else◌}
 use Rattle.std.proofs.Common.{sym, ap, ◌∙◌, mod-lt, arith}
 use Rattle.std.proofs.lemmas.Bool.{false≢true}
-use Rattle.format.specs.Choice.{if◌then◌else◌}
 use Rattle.format.specs.String.{hash, allowed}
 use Rattle.format.specs.Header.{buckets, header_fault}
 use Rattle.format.specs.Record.{name_of, bucket_of, images_at, images}

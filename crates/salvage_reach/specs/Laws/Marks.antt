@@ -1,10 +1,9 @@
 -- The mark of a walk: a record that is the marked one closes a round, and any other goes before the
 -- mark.
-use Rattle.std.specs.Prelude.{ℕ, suc, ◌+◌, ◌-◌, ◌*◌, ◌≤◌, ◌<◌, ◌≡◌, refl, List, Bool, true, false, length, eqb}
+use Rattle.std.specs.Prelude.{ℕ, suc, ◌+◌, ◌-◌, ◌*◌, ◌≤◌, ◌<◌, ◌≡◌, refl, List, Bool, true, false, length, eqb, if◌then◌else◌}
 use Rattle.std.proofs.Common.{sym, ap, ◌∙◌, arith, eqb-true}
 use Rattle.std.proofs.Math.Decide.{ℕ_discrete, dec_lt}
 use Rattle.std.proofs.lemmas.Bool.{eqb-false}
-use Rattle.format.specs.Choice.{if◌then◌else◌}
 use Rattle.format.specs.Layout.{end_value}
 use Rattle.format.specs.Chain.{most_records}
 use Rattle.format.specs.Words.{link}

@@ -1,6 +1,6 @@
 -- Each meeting is kept or has one row.
 use Prim.Native.Nat.{ℕ, zero, suc}
-use Rattle.std.specs.Prelude.{◌≡◌, Bool, length, eqb}
+use Rattle.std.specs.Prelude.{◌≡◌, Bool, length, eqb, if◌then◌else◌}
 use Rattle.std.proofs.Math.Path.{refl, sym, ap}
 use Rattle.std.proofs.Common.{◌∙◌, arith}
 use mathlib.Core.List.{List, [], ◌∷◌, ◌++◌, map, map-append}
@@ -8,7 +8,6 @@ use Rattle.std.proofs.Math.Bool.{true, false}
 use Rattle.std.proofs.lemmas.List.{length-map}
 use Rattle.std.proofs.Math.Seq.{drop-append_seam}
 use Rattle.std.proofs.Math.Dec.{eqb-suc-zero}
-use Rattle.format.specs.Choice.{if◌then◌else◌}
 use Rattle.format.specs.Fault.{unless, if_kept}
 use Rattle.format.specs.Header.{directories, buckets, path_fault}
 use Rattle.format.specs.Record.{valid_image}

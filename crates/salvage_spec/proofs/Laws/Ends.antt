@@ -1,14 +1,13 @@
 -- How the walk of a chain ends: one of four ways, and each of them says how many records it met and
 -- which row stands for its end.
 use Prim.Native.Nat.{ℕ, zero, suc, ◌+◌, ◌<◌}
-use Rattle.std.specs.Prelude.{◌≡◌, List, Bool, ◌&&◌, length}
+use Rattle.std.specs.Prelude.{◌≡◌, List, Bool, ◌&&◌, length, if◌then◌else◌}
 use Rattle.std.proofs.Math.Path.{refl}
 use Rattle.std.proofs.Common.{sym, ◌∙◌, arith}
 use Rattle.std.proofs.Math.Bool.{true, false, not, and-false}
 use Rattle.std.proofs.lemmas.Bool.{false≢true}
 use borrow.Author.Tests.{eq-eqb, ne_eqb, eqb-true, eqb-false, lt-leb, leb-true, leb-false}
 use Rattle.std.proofs.Math.Dec.{eqb}
-use Rattle.format.specs.Choice.{if◌then◌else◌}
 use Rattle.format.specs.Part.{inside}
 use Rattle.format.specs.Fault.{no_fault, unless, ◌or_else◌}
 use Rattle.format.specs.Layout.{end_value}

@@ -1,11 +1,10 @@
 -- Laws of lists joined step by step, and of those that pass a test.
 use Prim.Native.Nat.{ℕ, zero, suc, ◌+◌, ◌≤◌, ◌<◌}
-use Rattle.std.specs.Prelude.{◌≡◌, Bool, true, false, not, length, get_or}
+use Rattle.std.specs.Prelude.{◌≡◌, Bool, true, false, not, length, get_or, if◌then◌else◌}
 use Rattle.std.proofs.Math.Path.{refl, ap}
 use Rattle.std.proofs.Common.{sym, ◌∙◌, arith, length-append}
 use mathlib.Core.List.{List, [], ◌∷◌, ◌++◌, append-nil, append_assoc}
 use Rattle.std.proofs.Math.Decide.{dec_lt}
-use Rattle.format.specs.Choice.{if◌then◌else◌}
 use Rattle.catalogue.specs.Catalogue.{Each}
 use Rattle.catalogue.proofs.Laws.Allowed.{each_at}
 use Rattle.format.specs.Bytes.{joined}

@@ -1,14 +1,13 @@
 -- An accepted cache without equal names is kept whole: its paths by index, and its icons in the
 -- check's order, each with all its images.
 use Prim.Native.Nat.{ℕ, zero, suc, ◌+◌, ◌≤◌, ◌<◌}
-use Rattle.std.specs.Prelude.{◌≡◌, Bool, length}
+use Rattle.std.specs.Prelude.{◌≡◌, Bool, length, if◌then◌else◌}
 use Rattle.std.proofs.Math.Path.{refl, sym, ap}
 use Rattle.std.proofs.Common.{◌∙◌, arith}
 use mathlib.Core.List.{List, [], ◌∷◌, ◌++◌, map, map-append}
 use Rattle.std.proofs.Math.Bool.{true, false}
 use borrow.Author.Tests.{eqb-false}
 use Rattle.std.proofs.Math.Dec.{eqb}
-use Rattle.format.specs.Choice.{if◌then◌else◌}
 use Rattle.format.specs.Number.{be}
 use Rattle.format.specs.Bytes.{joined}
 use Rattle.format.specs.Fault.{if_kept}

@@ -1,9 +1,8 @@
 -- The cells of the table: which one says where its list is, and how they change from icon to icon.
-use Rattle.std.specs.Prelude.{ℕ, suc, ◌+◌, ◌≤◌, ◌<◌, ◌≡◌, List, false}
+use Rattle.std.specs.Prelude.{ℕ, suc, ◌+◌, ◌≤◌, ◌<◌, ◌≡◌, List, false, if◌then◌else◌}
 use Rattle.std.proofs.Common.{sym, ap, ◌∙◌, true≢false, arith, lt-ltb, le-ltb}
 use Rattle.std.proofs.Math.Decide.{dec_lt}
 use Rattle.format.specs.Bytes.{bytes}
-use Rattle.format.specs.Choice.{if◌then◌else◌}
 use Rattle.format.specs.Layout.{end_value}
 use Rattle.format.proofs.Laws.Bytes.{joined_same}
 use Rattle.squeeze_spec.specs.Uses.{first_use, is_first, place_of}

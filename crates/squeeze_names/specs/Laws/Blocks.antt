@@ -1,9 +1,8 @@
 -- Names that are taken in block by block: what is known after one block more.
-use Rattle.std.specs.Prelude.{ℕ, ◌+◌, ◌-◌, ◌/◌, ◌≤◌, ◌<◌, ◌≡◌, refl, ◌⊎◌, List, ◌∷◌, Bool, ◌||◌, length}
+use Rattle.std.specs.Prelude.{ℕ, ◌+◌, ◌-◌, ◌/◌, ◌≤◌, ◌<◌, ◌≡◌, refl, ◌⊎◌, List, ◌∷◌, Bool, ◌||◌, length, if◌then◌else◌}
 use Rattle.std.proofs.Common.{sym, ap, ◌∙◌, inl, inr, add-one, arith, lt-ltb, le-ltb}
 use Rattle.std.proofs.Math.Bool.{or_assoc}
 use Rattle.std.proofs.Math.Decide.{dec_lt}
-use Rattle.format.specs.Choice.{if◌then◌else◌}
 use Rattle.format.specs.Number.{be}
 use Rattle.format.specs.String.{among}
 use Rattle.keys.specs.Key.{key_at}

@@ -1,6 +1,6 @@
 -- One list more is passed: it is taken into the index, or it is looked for in it.
 use Prim.Native.Nat.{ℕ, suc, ◌+◌, ◌-◌, ◌*◌, ◌≤◌, ◌<◌}
-use Rattle.std.specs.Prelude.{◌≡◌, List, Bool, ◌||◌, get_or, set}
+use Rattle.std.specs.Prelude.{◌≡◌, List, Bool, ◌||◌, get_or, set, if◌then◌else◌}
 use Rattle.std.proofs.Math.Path.{refl, sym, ap}
 use Rattle.std.proofs.Common.{◌∙◌, add-zero, arith, get_or-set_same, get_or-set_other}
 use Rattle.std.proofs.Math.Logic.{⊎_elim}
@@ -8,7 +8,6 @@ use Rattle.std.proofs.Math.Bool.{true, false, not-eq-not, false≢true}
 use Rattle.std.proofs.Math.Decide.{ℕ_discrete, dec_lt}
 use Rattle.std.proofs.Math.Nat.{sub-zero}
 use Rattle.std.proofs.Math.ListN.{length}
-use Rattle.format.specs.Choice.{if◌then◌else◌}
 use Rattle.format.specs.Number.{be}
 use Rattle.format.specs.String.{among}
 use Rattle.format.proofs.Laws.Names.{among_first_lem, among-rest, among-either}

@@ -1,13 +1,12 @@
 -- The bytes of different parts: one part more, and one part fewer at the front.
 use Prim.Native.Nat.{ℕ, zero, suc, ◌+◌, ◌≤◌, ◌<◌}
-use Rattle.std.specs.Prelude.{◌≡◌, List, Bool, length}
+use Rattle.std.specs.Prelude.{◌≡◌, List, Bool, length, if◌then◌else◌}
 use Rattle.std.proofs.Math.Path.{refl}
 use Rattle.std.proofs.Common.{sym, ap, ◌∙◌, zero-add, length-append}
 use Rattle.std.proofs.Math.Logic.{⊎_elim}
 use Rattle.std.proofs.Math.Bool.{true, false, not-eq-not, false≢true}
 use native.Mathlib.Omega.{arith}
 use Rattle.format.specs.Bytes.{joined}
-use Rattle.format.specs.Choice.{if◌then◌else◌}
 use Rattle.format.specs.String.{among}
 use Rattle.format.proofs.Laws.Names.{among_first_lem, among-rest, among-either, equal_or_not}
 use Rattle.names.specs.Repeat.{seen}

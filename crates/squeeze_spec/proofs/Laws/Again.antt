@@ -1,14 +1,13 @@
 -- A cache that lays out a good catalogue by rising record offsets, and whose icons' buckets rise,
 -- holds just that catalogue in the check's order.
 use Prim.Native.Nat.{ℕ, zero, suc, ◌+◌, ◌-◌, ◌≤◌, ◌<◌}
-use Rattle.std.specs.Prelude.{◌≡◌, refl, ◌⊎◌, List, map, Bool, true, false, eqb}
+use Rattle.std.specs.Prelude.{◌≡◌, refl, ◌⊎◌, List, map, Bool, true, false, eqb, if◌then◌else◌}
 use Rattle.std.proofs.Math.Path.{sym, ap}
 use Rattle.std.proofs.Common.{◌∙◌}
 use Rattle.std.proofs.Math.Logic.{inl, inr}
 use Rattle.std.proofs.Math.Decide.{ℕ_discrete}
 use native.Mathlib.Omega.{arith}
 use Rattle.std.proofs.Math.ListN.{length}
-use Rattle.format.specs.Choice.{if◌then◌else◌}
 use Rattle.format.specs.Layout.{end_value}
 use Rattle.format.specs.Number.{be}
 use Rattle.format.specs.Header.{buckets, directories, path_of}

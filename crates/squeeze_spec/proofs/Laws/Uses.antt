@@ -1,6 +1,6 @@
 -- The first use of a key, and that a part that is stored once stands at its first use.
 use Prim.Native.Nat.{ℕ, zero, suc, ◌+◌, ◌≤◌, ◌<◌}
-use Rattle.std.specs.Prelude.{◌≡◌, Bool, length}
+use Rattle.std.specs.Prelude.{◌≡◌, Bool, length, if◌then◌else◌}
 use Rattle.std.proofs.Math.Path.{refl, ap}
 use Rattle.std.proofs.Common.{sym, ◌∙◌, zero-add}
 use mathlib.Core.List.{List, [], ◌++◌, append-nil}
@@ -10,7 +10,6 @@ use native.Mathlib.Omega.{arith}
 use borrow.Author.Tests.{ltb-true, ltb-false, eqb-true, eq-eqb}
 use Rattle.std.proofs.Math.ListN.{length-append}
 use Rattle.std.proofs.Math.Dec.{ltb}
-use Rattle.format.specs.Choice.{if◌then◌else◌}
 use Rattle.format.specs.String.{same_bytes}
 use Rattle.format.proofs.Laws.Names.{same-equal, other-unequal}
 use Rattle.format.proofs.Laws.Below.{below_suc}

@@ -8,7 +8,7 @@ use native.Mathlib.Nat.{le_of_eq, pos_of_ne-zero}
 use borrow.Author.Rules.{rules}
 use borrow.Author.Tests.{le-ltb, lt-ltb, le-leb, lt-leb, not-true, not-false}
 use lib.Dec.{ltb, leb}
-use Rattle.format.specs.Choice.{if◌then◌else◌}
+use Rattle.std.specs.Prelude.{if◌then◌else◌}
 use Rattle.format.specs.Part.{list_inside}
 use Rattle.format.specs.Fault.{unless, ◌or_else◌}
 use Rattle.format.specs.Header.{header_fault, directories_at, directories, valid_directories, buckets_at, buckets, valid_buckets}
