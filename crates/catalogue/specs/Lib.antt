@@ -10,6 +10,7 @@ pub mod Row
 pub mod Catalogue
 pub mod Fields
 pub mod Judgement
+pub mod Cursor
 pub mod Repeats
 pub mod LaidOut
 pub mod Serves

@@ -6,7 +6,8 @@ use native.Mathlib.Decide.{dec_lt}
 use native.Mathlib.Omega.{arith}
 use Rattle.format.specs.Layout.{end_value}
 use Rattle.format.specs.Words.{link, link_field, Keeps, KeepsBelow}
-use Rattle.format.proofs.Laws.Links.{Repeat, earlier}
+use Rattle.format.proofs.Laws.Links.{earlier}
+use Rattle.format.specs.Places.{Repeat}
 use Rattle.format.specs.declared.Reading.TheVariants.{Short}
 use Rattle.rounds.specs.Stepping.{ahead, InsideBelow}
 use Rattle.rounds.specs.Laws.{ahead-field}

@@ -14,7 +14,7 @@ use Rattle.format.specs.Chain.{follow, chained, chain_of}
 use Rattle.format.specs.Words.{link, link_field, KeepsBelow}
 use Rattle.format.proofs.Laws.Below.{below_suc}
 use Rattle.format.proofs.Laws.Follow.{follow-keeps}
-use Rattle.format.proofs.Laws.Links.{Repeat}
+use Rattle.format.specs.Places.{Repeat}
 use Rattle.format.proofs.Laws.Along.{links, reads-link, chain-along, keeps-chain}
 use Rattle.format.specs.declared.Next.{Next}
 use Rattle.format.specs.declared.Next.TheVariants.{Record}

@@ -2,7 +2,7 @@
 use Rattle.std.specs.Prelude.{ℕ, suc, ◌+◌, ◌≤◌, ◌<◌, ◌≡◌, List, length}
 use Rattle.format.specs.Chain.{Chain, chain_of, opened_on}
 use Rattle.format.specs.Words.{link_field, KeepsBelow}
-use Rattle.format.proofs.Laws.Links.{Repeat}
+use Rattle.format.specs.Places.{Repeat}
 use Rattle.format.specs.declared.Next.TheVariants.{Record}
 use Rattle.format.specs.declared.Reading.TheVariants.{Short}
 use Rattle.chains.specs.declared.Walked.{Walked}

@@ -8,6 +8,7 @@ pub mod Number
 pub mod Bytes
 pub mod Part
 pub mod Fault
+pub mod Listed
 pub mod String
 pub mod Segments
 pub mod Header
@@ -18,6 +19,7 @@ pub mod Chain
 pub mod Answer
 pub mod Call
 pub mod Words
+pub mod Places
 pub mod Demand
 pub mod Farm
 pub mod Examples

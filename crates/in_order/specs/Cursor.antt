@@ -5,7 +5,7 @@ use Rattle.format.specs.Header.{buckets}
 use Rattle.format.specs.Chain.{all_records, nth_record}
 use Rattle.format.specs.Words.{link, sum}
 use Rattle.format.specs.declared.Reading.TheVariants.{Short}
-use Rattle.format.proofs.Laws.InOrder.{chain_length, StandsAt}
+use Rattle.format.specs.Places.{chain_length, StandsAt}
 use Rattle.in_order.specs.declared.Cursor.{Cursor}
 
 -- r is an offset, not the end value

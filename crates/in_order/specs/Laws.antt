@@ -10,7 +10,8 @@ use Rattle.format.specs.Chain.{all_records}
 use Rattle.format.specs.Words.{link, Keeps, Holds, Accepted, sum}
 use Rattle.format.specs.declared.Reading.TheVariants.{Short}
 use Rattle.format.proofs.Laws.Demand.{demand3}
-use Rattle.format.proofs.Laws.InOrder.{chain_length, StandsAt, chain-lengths, order-length, step-in-order, below_length}
+use Rattle.format.proofs.Laws.InOrder.{chain-lengths, order-length, step-in-order, below_length}
+use Rattle.format.specs.Places.{chain_length, StandsAt}
 use Rattle.in_order.specs.Cursor.{Real, Before, Here}
 
 -- a record at hand keeps the rules, so it lies inside

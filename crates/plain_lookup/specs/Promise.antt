@@ -2,7 +2,7 @@
 use Rattle.std.specs.Prelude.{ℕ, ◌≡◌, List, [], ◌∷◌, true}
 use Rattle.format.specs.Words.{Accepted}
 use Rattle.format.specs.Call.{check, lookup, lookup_words}
-use Rattle.format.proofs.Laws.Numbers.{listed}
+use Rattle.format.specs.Listed.{listed}
 use Rattle.format.specs.declared.LookupAnswer.{LookupAnswer}
 use Rattle.format.specs.declared.Reading.TheVariants.{Short}
 use Rattle.plain_lookup.specs.Plain.{plain_lookup, plain_words}

@@ -8,7 +8,7 @@ use Rattle.format.specs.Number.{be}
 use Rattle.format.specs.Words.{link_field}
 use Rattle.format.proofs.Laws.Below.{below_suc}
 use Rattle.format.proofs.Laws.Along.{reads-link}
-use Rattle.format.proofs.Laws.Links.{Repeat}
+use Rattle.format.specs.Places.{Repeat}
 use Rattle.rounds.specs.Stepping.{ahead, InsideBelow, Runs, ComesBack}
 use Rattle.rounds.specs.declared.Round.{Round}
 

@@ -8,7 +8,7 @@ use Rattle.format.specs.Chain.{all_records}
 use Rattle.format.specs.Words.{link, link_field, Inside, OnChain, Accepted}
 use Rattle.format.specs.declared.Fault.{Fault}
 use Rattle.format.specs.declared.Reading.TheVariants.{Short}
-use Rattle.format.proofs.Laws.Numbers.{listed}
+use Rattle.format.specs.Listed.{listed}
 use Rattle.catalogue.specs.Catalogue.{Good, catalogue_is}
 use Rattle.catalogue.specs.Fields.{AreBytes}
 use Rattle.catalogue.specs.Serves.{Serves}

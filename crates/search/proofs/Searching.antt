@@ -14,7 +14,7 @@ use Rattle.format.specs.Chain.{most_records}
 use Rattle.format.specs.Answer.{unfound}
 use Rattle.format.specs.Call.{unnamed, search_bucket}
 use Rattle.format.specs.Words.{NoneBelow}
-use Rattle.format.proofs.Laws.Links.{Repeat}
+use Rattle.format.specs.Places.{Repeat}
 use Rattle.format.proofs.Laws.Search.{search-unnamed, search-lasts}
 use Rattle.format.specs.declared.Next.TheVariants.{Record}
 use Rattle.rounds.specs.Stepping.{InsideBelow, Turning}

@@ -5,7 +5,7 @@ ghost use Rattle.format.specs.Bytes.{put};
 ghost use Rattle.format.specs.String.{hash};
 ghost use Rattle.catalogue.specs.Fields.{name_text, catalogue_in};
 ghost use Rattle.catalogue.specs.Written.{places, front};
-ghost use Rattle.catalogue.proofs.Laws.Cursor.{IconThere};
+ghost use Rattle.catalogue.specs.Cursor.{IconThere};
 ghost use Rattle.passes.specs.Passes.{Judged};
 ghost use Rattle.passes.specs.Record.{appended};
 ghost use Rattle.write_cache.specs.Appending.{leads, bucket_at, Ready};

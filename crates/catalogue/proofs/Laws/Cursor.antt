@@ -1,20 +1,13 @@
 -- The icons of bytes that are judged good, one by one, as a loop over them meets them.
-use Rattle.std.specs.Prelude.{ℕ, ◌+◌, ◌≤◌, ◌<◌, ◌≡◌, List, true, length}
+use Rattle.std.specs.Prelude.{ℕ, ◌<◌, ◌≡◌, List, true}
 use Rattle.std.proofs.Math.Bool.{and-eq-true_iff}
 use Rattle.std.proofs.Common.{leb-true}
-use Rattle.format.specs.String.{allowed}
 use Rattle.format.proofs.Laws.Faults.{or_else-none, unless-none}
 use Rattle.catalogue.specs.Row.{row_end}
-use Rattle.catalogue.specs.Fields.{name_length, name_text, image_count_at, image_count, icon_end, path_count, icon_count, first_icon_at}
+use Rattle.catalogue.specs.Fields.{icon_end, path_count, icon_count, first_icon_at}
+use Rattle.catalogue.specs.Cursor.{IconThere}
 use Rattle.catalogue.specs.Judgement.{icon_fields_fault, fields_fault}
 use Rattle.catalogue.proofs.Laws.Rows.{row_keeps}
-
--- what an icon tells that is judged good
-pub record IconThere (c : List ℕ) (p : ℕ) : Type 0 where
-  pub name-inside : p + 1 + name_length c p ≤ length c
-  pub count-inside : image_count_at c p + 2 ≤ length c
-  pub named : allowed (name_text c p) ≡ true
-  pub few : image_count c p ≤ 1024
 
 icon-tells : (n : ℕ) (c : List ℕ) (p : ℕ) → (icon_fields_fault n c p).number ≡ 0 → IconThere c p
 unfolding icon_fields_fault

@@ -7,7 +7,7 @@ use mathlib.Core.List.{List}
 use native.Mathlib.Omega.{arith}
 use borrow.Author.Rules.{rules}
 use lib.ListN.{length}
-use Rattle.format.proofs.Laws.Links.{Repeat}
+use Rattle.format.specs.Places.{Repeat}
 use Rattle.tables.specs.Laws.{valid-header}
 use Rattle.chains.specs.Walk.{Stands}
 use Rattle.chains.specs.Laws.{walked-goes}

@@ -9,7 +9,8 @@ use Rattle.format.specs.Record.{name_of, bucket_of}
 use Rattle.format.specs.Chain.{most_records}
 use Rattle.format.specs.Words.{link, Inside, Keeps, KeepsBelow, Holds}
 use Rattle.format.proofs.Laws.Pigeonhole.{Distinct, member, pigeonhole}
-use Rattle.format.proofs.Laws.Links.{Repeat, once, keeps-bucket}
+use Rattle.format.proofs.Laws.Links.{once, keeps-bucket}
+use Rattle.format.specs.Places.{Repeat}
 use Rattle.format.specs.declared.Reading.{Reading}
 
 -- the records of the first n steps of the chain of bucket k, put before xs

@@ -14,7 +14,8 @@ use Rattle.format.specs.declared.Fault.{Fault}
 use Rattle.format.specs.declared.Next.TheVariants.{End, Broken, Record}
 use Rattle.format.proofs.Laws.Faults.{kept-takes, broken-takes}
 use Rattle.format.proofs.Laws.Along.{opened-on, after_is, holds-chain, breaks-chain, keeps-chain}
-use Rattle.format.proofs.Laws.Links.{Repeat, once, never-breaks}
+use Rattle.format.proofs.Laws.Links.{once, never-breaks}
+use Rattle.format.specs.Places.{Repeat}
 use Rattle.format.proofs.Laws.Apart.{Apart, visits, visits-length, apart_none, apart-length, apart-chain, apart-few}
 use Rattle.format.proofs.Laws.Order.{longest-length}
 use Rattle.format.specs.declared.Reading.{Reading}

@@ -6,7 +6,8 @@ use Rattle.format.specs.Fault.{no_fault}
 use Rattle.format.specs.String.{is_whole, string_fault}
 use Rattle.format.specs.declared.Extent.{Extent}
 use Rattle.format.specs.declared.Extent.TheVariants.{Whole, Empty, Long, Cut}
-use Rattle.format.proofs.Laws.Numbers.{OneOf, listed}
+use Rattle.format.proofs.Laws.Numbers.{OneOf}
+use Rattle.format.specs.Listed.{listed}
 
 pub string-kept : (e : Extent) (x p : ℕ) → is_whole e ≡ true → string_fault e x p ≡ no_fault
 unfolding is_whole string_fault

@@ -5,28 +5,17 @@ use Rattle.std.proofs.Common.{ap, ◌∙◌, inl, inr, arith}
 use Rattle.std.proofs.Math.Decide.{ℕ_discrete, dec_lt}
 use Rattle.format.specs.Header.{buckets}
 use Rattle.format.specs.Record.{bucket_of}
-use Rattle.format.specs.Chain.{chain_of, most_records, all_records, nth_record, nth_name}
-use Rattle.format.specs.Words.{link, Keeps, Holds, Accepted, Lengths, sum}
+use Rattle.format.specs.Chain.{all_records, nth_record, nth_name}
+use Rattle.format.specs.Words.{link, Holds, Accepted, Lengths, sum}
+use Rattle.format.specs.Places.{chain_length, StandsAt}
 use Rattle.format.proofs.Laws.Links.{keeps-bucket}
 use Rattle.format.proofs.Laws.Apart.{holds-few}
 use Rattle.format.proofs.Laws.Along.{counted, holds-chain}
 use Rattle.format.proofs.Laws.Order.{located, record-at, records-length, sum-before}
 use Rattle.format.specs.declared.Reading.TheVariants.{Short}
 
--- the length of bucket k's chain, where it holds
-abbrev pub chain_length : List ℕ → ℕ → ℕ
-chain_length s k = length (chain_of Short s k (most_records s)).records
-
 pub chain_length_lem : {s : List ℕ} {k n : ℕ} → Holds Short s k n → chain_length s k ≡ n
 chain_length_lem {s} {k} {n} h = counted s k n (holds-chain Short s k (holds-few h) h)
-
--- the n-th record in the check's order stands on bucket k's chain, at step m
-pub record StandsAt (s : List ℕ) (n k m : ℕ) : Type 0 where
-  pub bucket : k < buckets s
-  pub step : m < chain_length s k
-  pub place : n ≡ sum (chain_length s) k + m
-  pub named : nth_record s n ≡ link s k m
-  pub keeps : Keeps Short s k (nth_record s n)
 
 module _ {s : List ℕ} (acc : Accepted Short s) where
   pub chain-lengths : Lengths Short s (buckets s) (chain_length s)

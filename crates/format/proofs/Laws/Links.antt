@@ -16,16 +16,9 @@ use Rattle.format.proofs.Laws.Faults.{same_number, or_else-first, or_else-assoc}
 use Rattle.format.proofs.Laws.Numbers.{OneOf, link_numbers}
 use Rattle.format.proofs.Laws.Rules.{record-valid, keeps-short, record-long}
 use Rattle.format.proofs.Laws.Follow.{link-number, keeps-link}
+use Rattle.format.specs.Places.{Repeat}
 use Rattle.format.specs.declared.Reading.{Reading}
 use Rattle.format.specs.declared.Reading.TheVariants.{Short, Long}
-
--- two steps below n name one record
-pub record Repeat (s : List ℕ) (k n : ℕ) : Type 0 where
-  pub first : ℕ
-  pub second : ℕ
-  pub order : first < second
-  pub below : second < n
-  pub same : link s k second ≡ link s k first
 
 -- the name of a record that keeps the rules is one of its bucket
 pub keeps-bucket : {ρ : Reading} {s : List ℕ} {k r : ℕ} → Keeps ρ s k r → bucket_of s (name_of s r) ≡ k

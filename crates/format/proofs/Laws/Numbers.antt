@@ -1,21 +1,18 @@
 -- Which numbers a judgement can give: 0, or one of a list; the test computes, so that a number that
 -- is not among them is refuted by it.
 use Prim.Native.Nat.{ℕ, zero, suc}
-use Rattle.std.specs.Prelude.{◌≡◌, List, [], ◌∷◌, Bool, true, false, ◌&&◌, ◌||◌, eqb}
+use Rattle.std.specs.Prelude.{◌≡◌, List, [], ◌∷◌, Bool, true, false, ◌&&◌}
 use Rattle.std.proofs.Math.Path.{refl}
 use Rattle.std.proofs.Common.{sym, ◌∙◌, subst, ne_eqb}
 use Rattle.std.proofs.Math.Bool.{and-eq-true_iff}
 use Rattle.std.proofs.lemmas.Bool.{false≢true}
 use Rattle.std.proofs.Math.Decide.{ℕ_discrete}
 use Rattle.format.specs.Fault.{unless, ◌or_else◌, first_fault}
+use Rattle.format.specs.Listed.{listed}
 use Rattle.format.specs.declared.Fault.{Fault}
 use Rattle.format.specs.declared.Reading.{Reading}
 use Rattle.format.specs.declared.Reading.TheVariants.{Short, Long}
 use Rattle.format.proofs.Laws.Faults.{or_else-first, or_else-next}
-
-abbrev pub listed : ℕ → List ℕ → Bool
-listed x [] = false
-listed x (n ∷ ns) = eqb x n || listed x ns
 
 pub record OneOf (ns : List ℕ) (x : ℕ) : Type 0 where
   pub one : listed x (0 ∷ ns) ≡ true

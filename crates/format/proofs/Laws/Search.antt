@@ -17,7 +17,8 @@ use Rattle.format.specs.declared.Next.{Next}
 use Rattle.format.proofs.Laws.Below.{below_suc}
 use Rattle.format.proofs.Laws.Names.{equal-same, unequal-other, equal_or_not}
 use Rattle.format.proofs.Laws.Along.{links, links-length, chain-along, holds-chain, breaks-chain, keeps-chain}
-use Rattle.format.proofs.Laws.Links.{Repeat, earlier, once, never-breaks}
+use Rattle.format.proofs.Laws.Links.{earlier, once, never-breaks}
+use Rattle.format.specs.Places.{Repeat}
 use Rattle.format.proofs.Laws.Apart.{apart_none, apart-few}
 use Rattle.format.proofs.Laws.Course.{ends, breaks, goes_on, course}
 use Rattle.format.specs.declared.Reading.TheVariants.{Short}

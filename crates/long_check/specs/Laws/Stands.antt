@@ -20,7 +20,8 @@ use Rattle.format.proofs.Laws.Numbers.{never}
 use Rattle.format.proofs.Laws.Rules.{long-notes, record-number}
 use Rattle.format.proofs.Laws.Follow.{link-inside}
 use Rattle.format.proofs.Laws.Along.{reads-link}
-use Rattle.format.proofs.Laws.Links.{Repeat, round, holds-short, below-short, keeps-listed}
+use Rattle.format.proofs.Laws.Links.{round, holds-short, below-short, keeps-listed}
+use Rattle.format.specs.Places.{Repeat}
 use Rattle.format.proofs.Laws.Regions.{reached, next-sound, chain-behind}
 use Rattle.tables.specs.Tables.{TablesOf}
 use Rattle.tables.specs.Laws.{field-inside}

@@ -15,7 +15,8 @@ use Rattle.catalogue.specs.LaidOut.{nth_icon, list_bytes, text_and_zero}
 use Rattle.catalogue.proofs.Laws.Rows.{row_at, row-length, row_keeps, end-steps}
 use Rattle.catalogue.proofs.Laws.Spans.{spans-are, part_length}
 use Rattle.catalogue.proofs.Laws.Judged.{row_told, image-told}
-use Rattle.catalogue.proofs.Laws.Cursor.{IconThere, icon-there}
+use Rattle.catalogue.proofs.Laws.Cursor.{icon-there}
+use Rattle.catalogue.specs.Cursor.{IconThere}
 use Rattle.entries.specs.Laws.{icon-inside}
 use Rattle.passes.specs.Passes.{Judged}
 

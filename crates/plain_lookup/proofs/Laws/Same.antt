@@ -15,7 +15,7 @@ use Rattle.format.specs.Answer.{looked_up}
 use Rattle.format.specs.declared.Fault.{Fault}
 use Rattle.format.specs.declared.LookupAnswer.{LookupAnswer}
 use Rattle.format.specs.declared.Reading.TheVariants.{Short}
-use Rattle.format.proofs.Laws.Numbers.{listed}
+use Rattle.format.specs.Listed.{listed}
 use Rattle.format.proofs.Laws.Header.{header-valid}
 use Rattle.format.proofs.Laws.Rules.{tables-keep-header}
 use Rattle.format.proofs.Laws.Search.{Sought, absent, met, broken, lasts, sought}
@@ -25,7 +25,8 @@ use Rattle.format.proofs.Laws.Links.{unbroken, keeps-le}
 use Rattle.format.proofs.Laws.Below.{below_suc}
 use Rattle.format.proofs.Laws.Apart.{holds-few}
 use Rattle.format.proofs.Laws.Demand.{demand3}
-use Rattle.format.proofs.Laws.InOrder.{chain_length, StandsAt, chain_length_lem, chain-lengths, in_order, step-in-order, below_length, home}
+use Rattle.format.proofs.Laws.InOrder.{chain_length_lem, chain-lengths, in_order, step-in-order, below_length, home}
+use Rattle.format.specs.Places.{chain_length, StandsAt}
 use Rattle.plain_lookup.specs.Plain.{plain_lookup}
 use Rattle.plain_lookup.specs.Promise.{Same, faults_met, PlainPromise}
 use Rattle.plain_lookup.proofs.Laws.Tried.{tried-met, tried-none, plain-unallowed, plain-met, plain-none}

@@ -8,7 +8,8 @@ use Rattle.format.specs.Header.{bucket_field}
 use Rattle.format.specs.Words.{link, link_field}
 use Rattle.format.proofs.Laws.Below.{below_suc}
 use Rattle.format.proofs.Laws.Along.{reads-link}
-use Rattle.format.proofs.Laws.Links.{Repeat, earlier}
+use Rattle.format.proofs.Laws.Links.{earlier}
+use Rattle.format.specs.Places.{Repeat}
 use Rattle.rounds.specs.Stepping.{ahead, Runs, LeadsIn}
 use Rattle.salvage_reach.specs.Laws.Reach.{reach-ended, reach-outside, reach-misnamed, reach-looped}
 use Rattle.salvage_reach.specs.declared.Mark.{Mark}

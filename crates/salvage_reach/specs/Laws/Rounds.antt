@@ -10,7 +10,8 @@ use Rattle.format.specs.Number.{be}
 use Rattle.format.specs.Chain.{most_records}
 use Rattle.format.specs.Words.{link}
 use Rattle.format.proofs.Laws.Below.{below_suc}
-use Rattle.format.proofs.Laws.Links.{Repeat, earlier}
+use Rattle.format.proofs.Laws.Links.{earlier}
+use Rattle.format.specs.Places.{Repeat}
 use Rattle.salvage_spec.specs.Meetings.{named_below}
 use Rattle.salvage_spec.specs.Promise.{Fresh, MeetsAt}
 use Rattle.salvage_spec.proofs.Laws.Meets.{named-somewhere, named-nowhere, few-met}

@@ -17,7 +17,8 @@ use Rattle.keys.specs.declared.Kind.TheVariants.{Ended}
 use Rattle.tables.specs.Laws.{valid-header, same-field, field-inside}
 use Rattle.in_order.specs.Cursor.{Here}
 use Rattle.format.specs.Chain.{nth_name}
-use Rattle.format.proofs.Laws.InOrder.{chain_length, chain-lengths}
+use Rattle.format.proofs.Laws.InOrder.{chain-lengths}
+use Rattle.format.specs.Places.{chain_length}
 use Rattle.squeeze_icons.specs.Laws.Before.{Passing, passing-first, passing-inside, passing-all, passing-same, passing-next, passing-before}
 use Rattle.squeeze_icons.proofs.named_before.Statement.{statement}
 use Rattle.squeeze_icons.proofs.named_before.Tie as tie

@@ -13,7 +13,8 @@ use Rattle.format.proofs.Laws.Below.{below_suc}
 use Rattle.format.proofs.Laws.Links.{one-step}
 use Rattle.squeeze_spec.specs.Uses.{is_first}
 use Rattle.format.specs.Chain.{nth_name}
-use Rattle.format.proofs.Laws.InOrder.{chain_length, chain-lengths}
+use Rattle.format.proofs.Laws.InOrder.{chain-lengths}
+use Rattle.format.specs.Places.{chain_length}
 use Rattle.squeeze_spec.proofs.Laws.Order.{first-on-chain, none-below-first}
 use Rattle.in_order.specs.Cursor.{Here}
 

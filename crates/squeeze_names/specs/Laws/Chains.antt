@@ -21,7 +21,8 @@ use Rattle.tables.specs.Tables.{Sound}
 use Rattle.tables.specs.declared.Tables.{Tables}
 use Rattle.gathering.specs.Laws.Repeats.{ahead-link}
 use Rattle.format.specs.Chain.{nth_name}
-use Rattle.format.proofs.Laws.InOrder.{chain_length, StandsAt, chain_length_lem, order-length, step-in-order}
+use Rattle.format.proofs.Laws.InOrder.{chain_length_lem, order-length, step-in-order}
+use Rattle.format.specs.Places.{chain_length, StandsAt}
 use Rattle.squeeze_spec.proofs.Laws.Order.{first-on-chain, none-below-first}
 use Rattle.in_order.specs.Laws.{records-few}
 use Rattle.squeeze_names.specs.Repeated.{Adds, among_before, comes_again, RepeatsMarked}

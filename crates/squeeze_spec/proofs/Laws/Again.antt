@@ -27,7 +27,8 @@ use Rattle.catalogue.proofs.Laws.Listed.{listed_back}
 use Rattle.squeeze_spec.specs.Squeezed.{kept_records, contents}
 use Rattle.squeeze_spec.proofs.Laws.Uses.{new-first}
 use Rattle.squeeze_spec.proofs.Laws.Picked.{all-picked}
-use Rattle.format.proofs.Laws.InOrder.{in_order, order-of, chain_length_lem, chain-lengths, chain_length}
+use Rattle.format.proofs.Laws.InOrder.{in_order, order-of, chain_length_lem, chain-lengths}
+use Rattle.format.specs.Places.{chain_length}
 use Rattle.squeeze_spec.proofs.Laws.Contents.{BucketsRise}
 
 -- the first of bucket k from the i-th icon on is the end value or the record of such an icon

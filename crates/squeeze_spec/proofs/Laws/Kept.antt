@@ -13,7 +13,8 @@ use Rattle.catalogue.proofs.Laws.Names.{map_at}
 use Rattle.squeeze_spec.specs.Squeezed.{kept_records}
 use Rattle.squeeze_spec.proofs.Laws.Uses.{first-new}
 use Rattle.squeeze_spec.proofs.Laws.Picked.{Picked, picked}
-use Rattle.format.proofs.Laws.InOrder.{in_order, step-in-order, below_length, buckets-rise, chain_length}
+use Rattle.format.proofs.Laws.InOrder.{in_order, step-in-order, below_length, buckets-rise}
+use Rattle.format.specs.Places.{chain_length}
 use Rattle.squeeze_spec.proofs.Laws.Order.{first-on-chain}
 
 module _ {s : List ℕ} (acc : Accepted Short s) where

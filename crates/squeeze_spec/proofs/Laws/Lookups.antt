@@ -34,7 +34,8 @@ use Rattle.squeeze_spec.proofs.Laws.Uses.{first-with}
 use Rattle.squeeze_spec.proofs.Laws.Kept.{kept-on-chain, met-kept}
 use Rattle.squeeze_spec.proofs.Laws.Contents.{icon-count, icon-is, some-bucket}
 use Rattle.squeeze_spec.proofs.Laws.Same.{Gives, Lacks, same-given, same-lacking, lacks-by, unallowed}
-use Rattle.format.proofs.Laws.InOrder.{chain-lengths, chain_length}
+use Rattle.format.proofs.Laws.InOrder.{chain-lengths}
+use Rattle.format.specs.Places.{chain_length}
 
 -- a lookup that meets the record r gives its images
 gives-met : (s name : List ℕ) (r o : ℕ) → ((room : ℕ) → lookup s name room ≡ found_answer s room r o) → Gives s name (icon_of s r).images

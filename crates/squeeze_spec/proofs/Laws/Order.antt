@@ -4,7 +4,8 @@ use Rattle.std.proofs.Common.{sym, ap, ◌∙◌, inl, inr, arith}
 use Rattle.format.specs.Record.{name_of, bucket_of}
 use Rattle.format.specs.Chain.{all_records, nth_name}
 use Rattle.format.specs.Words.{link, Accepted, NoneBelow, sum}
-use Rattle.format.proofs.Laws.InOrder.{chain_length, StandsAt, in_order, step-in-order, below_length, order-of, home}
+use Rattle.format.proofs.Laws.InOrder.{in_order, step-in-order, below_length, order-of, home}
+use Rattle.format.specs.Places.{chain_length, StandsAt}
 use Rattle.format.specs.declared.Reading.TheVariants.{Short}
 use Rattle.squeeze_spec.specs.Uses.{is_first}
 use Rattle.squeeze_spec.proofs.Laws.Uses.{first-new, new-first}
