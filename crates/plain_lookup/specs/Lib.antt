@@ -1,4 +1,4 @@
--- Request 13: the plain lookup, what is promised of it, and the laws.
+-- Request 13: the plain lookup, and what is promised of it.
 pub mod Plain
 pub mod Promise
 pub mod Examples

@@ -2,7 +2,7 @@
 // in the check's order.
 //
 // Ask: why does the ordinary lookup need to try the records of one bucket only? What if a record
-// stood in another bucket than its name's? The answer is `own-chain` in specs/Laws/Same.antt: in a
+// stood in another bucket than its name's? The answer is `own-chain` in proofs/Laws/Same.antt: in a
 // cache that the check accepts, each record that bears a name stands on the chain of that name's
 // bucket. So both lookups find the same record (`plain-promise`, there too).
 #![tactic(auto)]
