@@ -1,5 +1,5 @@
 // The length of a string and its hash as a name, in one pass: eight bytes at a time, and one by one
-// where fewer than eight are left of the part.
+// where fewer than eight are left of the part. And the number that eight bytes write.
 #![tactic(auto)]
 
 ghost use Rattle.std.specs.Prelude.{◌≡◌, ◌+◌, ◌*◌, ◌%◌, ◌^◌, ◌<◌, ◌≤◌, length};
