@@ -1,0 +1,3 @@
+-- What the proofs of the code rest on.
+pub mod Laws
+pub mod Wrapping

@@ -1,0 +1,2 @@
+-- How far a string is read.
+pub mod Reached

@@ -1,0 +1,2 @@
+-- What the functions of this crate hand to one another.
+pub mod Marks
