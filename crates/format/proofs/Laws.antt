@@ -4,6 +4,7 @@
 -- of each definition by itself
 pub mod First
 pub mod Faults
+pub mod Outcomes
 pub mod Numbers
 pub mod Reads
 pub mod Bytes

@@ -1,6 +1,6 @@
 -- Which rule is broken first, and where: document 01, 'Answer numbers', in the order of checks. A
 -- judgement with number 0 says that none is.
-use Rattle.std.specs.Prelude.{ℕ, zero, suc, ◌+◌, Bool, true, false}
+use Rattle.std.specs.Prelude.{ℕ, zero, suc, ◌+◌, Bool, true, false, Result, Ok, Err}
 use Rattle.format.specs.declared.Fault.{Fault}
 
 abbrev pub fault : ℕ → ℕ → Fault
@@ -32,3 +32,12 @@ first_fault judge next (suc n) p = judge p or_else first_fault judge next n (nex
 -- a step further
 abbrev pub step_on : ℕ → ℕ → ℕ
 step_on step p = p + step
+
+-- what code hands on of a judgement: the value that there is where no rule is broken, or the broken
+-- rule
+abbrev pub outcome : {A : Type 0} → Fault → A → Result A Fault
+outcome v a = if_kept v (Ok a) (Err v)
+
+-- where there is no value
+abbrev pub verdict : Fault → Result Unit Fault
+verdict v = outcome v tt
