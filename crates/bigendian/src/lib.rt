@@ -18,9 +18,7 @@ pub fn u16_at(s: &[u8], at: usize) -> u16
     requires { at + 2 ≤ length s.now }
     ensures { result ≡ be 2 s.now at }
 {
-    let high = byte(s, at);
-    let low = byte(s, at + 1);
-    high * 256 + low
+    u16::from_be_bytes([s[at], s[at + 1]])
 }
 
 // The number that the four bytes at `at` write.
@@ -28,9 +26,7 @@ pub fn u32_at(s: &[u8], at: usize) -> u32
     requires { at + 4 ≤ length s.now }
     ensures { result ≡ be 4 s.now at }
 {
-    let high = u16_at(s, at) as u32;
-    let low = u16_at(s, at + 2) as u32;
-    high * 65536 + low
+    u32::from_be_bytes([s[at], s[at + 1], s[at + 2], s[at + 3]])
 }
 
 // Puts the byte `n` at `at`, and leaves all else as it was.
@@ -46,8 +42,7 @@ pub fn put_u16(out: &mut [u8], at: usize, n: u16)
     requires { at + 2 ≤ length out.old }
     ensures { out.new ≡ put out.old at (bytes 2 n) }
 {
-    put_byte(out, at, (n / 256) as u8);
-    put_byte(out, at + 1, (n % 256) as u8);
+    out[at..at + 2].copy_from_slice(&n.to_be_bytes());
 }
 
 // Puts `n` into the four bytes at `at`, and leaves all else as it was.
@@ -55,6 +50,5 @@ pub fn put_u32(out: &mut [u8], at: usize, n: u32)
     requires { at + 4 ≤ length out.old }
     ensures { out.new ≡ put out.old at (bytes 4 n) }
 {
-    put_u16(out, at, (n / 65536) as u16);
-    put_u16(out, at + 2, (n % 65536) as u16);
+    out[at..at + 4].copy_from_slice(&n.to_be_bytes());
 }
