@@ -11,11 +11,7 @@ pub fn copy(from: &[u8], start: usize, n: usize, out: &mut [u8], at: usize)
     requires { (start + n ≤ length from.now) × (at + n ≤ length out.old) }
     ensures { out.new ≡ put out.old at (take n (drop start from.now)) }
 {
-    let mut i = 0;
-    while i < n {
-        out[at + i] = from[start + i];
-        i += 1;
-    }
+    out[at..at + n].copy_from_slice(&from[start..start + n]);
 }
 
 // Puts the text of `n` bytes that stands in `from` at `start` into `out` at `at`, and a zero byte

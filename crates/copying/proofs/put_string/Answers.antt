@@ -3,15 +3,13 @@ use Prim.Native.Nat.{◌+◌}
 use mathlib.Core.Path.{◌≡◌}
 use mathlib.Core.List.{[], ◌∷◌}
 use native.Mathlib.Omega.{arith}
-use borrow.Author.Rules.{rules}
 use lib.ListN.{length, take, drop, length-drop}
 use lib.Seq.{length-take-le}
 use Rattle.format.specs.Bytes.{bytes}
 use Rattle.format.proofs.Laws.Put.{put_then}
-use Rattle.copying.proofs.put_string.Statement.{statement}
-use Rattle.copying.proofs.put_string.Tie as tie
+use Rattle.copying.proofs.put_string.Goals as goal
 
-returns : tie.Need-returns
+pub returns : goal.returns
 unfolding bytes
 returns c =
     let a = c.args in
@@ -19,7 +17,3 @@ returns c =
     let text = take a.n (drop a.start s) in
     let size : length text ≡ a.n = length-take-le _ _ (omega (arith, length-drop a.start s)) in
     put_then a.out.now a.at text (0 ∷ []) {q = a.at + a.n} (omega arith) (omega arith) c.copy.ensures c.put_byte.ensures
-
-pub put_string_spec : {M : Type 1} → statement M
-put_string_spec =
-    tie.close (tie.spec (λ c κs. search rules) (λ c. search rules) (λ c κs. search rules) (λ c. search rules) returns)
