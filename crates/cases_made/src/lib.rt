@@ -8,7 +8,6 @@ mod images;
 pub mod script;
 
 use script::Words;
-use std::num::wrapping_add_usize;
 
 // How many bytes the cache has, and the kept one.
 #[derive(Clone, Copy)]
@@ -23,27 +22,21 @@ pub fn put_byte(cache: &mut [u8], at: usize, value: u8) {
     }
 }
 
-// The low byte of `value`.
-fn low(value: usize) -> u8 {
-    (value % 256) as u8
+fn put_bytes(cache: &mut [u8], at: usize, bytes: &[u8]) {
+    for (i, byte) in bytes.iter().enumerate() {
+        put_byte(cache, at.wrapping_add(i), *byte);
+    }
 }
 
 // `value` modulo 2^32, in four bytes.
 pub fn put_u32(cache: &mut [u8], at: usize, value: usize) {
-    put_byte(cache, at, low(value / 16777216));
-    put_byte(cache, wrapping_add_usize(at, 1), low(value / 65536));
-    put_byte(cache, wrapping_add_usize(at, 2), low(value / 256));
-    put_byte(cache, wrapping_add_usize(at, 3), low(value));
+    put_bytes(cache, at, &((value % 4294967296) as u32).to_be_bytes());
 }
 
 // Puts `string` at `at`, and a zero byte after it.
 pub fn put_string(cache: &mut [u8], at: usize, string: &[u8]) {
-    let mut i = 0;
-    while i < string.len() {
-        put_byte(cache, wrapping_add_usize(at, i), string[i]);
-        i += 1;
-    }
-    put_byte(cache, wrapping_add_usize(at, i), 0);
+    put_bytes(cache, at, string);
+    put_byte(cache, at.wrapping_add(string.len()), 0);
 }
 
 // Puts digit `n` of the bytes from `at` on, and counts it; a space counts for none. A digit moves
@@ -52,28 +45,24 @@ fn put_digit(cache: &mut [u8], at: usize, n: usize, c: u8) -> usize {
     if c == b' ' {
         return n;
     }
-    let place = wrapping_add_usize(at, n / 2);
+    let place = at.wrapping_add(n / 2);
     let high = script::byte(cache, place) % 16 * 16;
     put_byte(cache, place, high | script::digit(c));
-    wrapping_add_usize(n, 1)
+    n.wrapping_add(1)
 }
 
 // Puts the bytes that the digits write.
 fn put_hex(cache: &mut [u8], at: usize, hex: &[u8]) {
     let mut n: usize = 0;
-    let mut i = 0;
-    while i < hex.len() {
-        n = put_digit(cache, at, n, hex[i]);
-        i += 1;
+    for c in hex {
+        n = put_digit(cache, at, n, *c);
     }
 }
 
 // Puts the same byte `count` times.
 fn fill(cache: &mut [u8], at: usize, count: usize, value: u8) {
-    let mut i = 0;
-    while i < count {
-        put_byte(cache, wrapping_add_usize(at, i), value);
-        i += 1;
+    for i in 0..count {
+        put_byte(cache, at.wrapping_add(i), value);
     }
 }
 

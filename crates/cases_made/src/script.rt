@@ -1,21 +1,14 @@
 // Reads lines of words, with one space between two words. What lies past the end reads as nothing.
 ghost use Rattle.std.specs.Prelude.{◌≤◌};
 
-use std::num::wrapping_add_usize;
-
 // The byte at `at`, or 0 past the end.
 pub fn byte(line: &[u8], at: usize) -> u8 {
-    if at < line.len() { line[at] } else { 0 }
+    line.get(at).copied().unwrap_or(0)
 }
 
 // The bytes from `from` up to `to`, or none where they do not lie inside.
 pub fn part(line: &[u8], from: usize, to: usize) -> &[u8] {
-    if from <= to {
-        if to <= line.len() {
-            return &line[from..to];
-        }
-    }
-    &line[0..0]
+    line.get(from..to).unwrap_or(&[])
 }
 
 // The bytes from `from` on.
@@ -27,19 +20,17 @@ pub fn rest(line: &[u8], from: usize) -> &[u8] {
 pub fn find(line: &[u8], at: usize, stop: u8) -> usize
     ensures { at ≤ result }
 {
-    let mut i = at;
-    while i < line.len() {
+    for i in at..line.len() {
         if line[i] == stop {
             return i;
         }
-        i += 1;
     }
-    i
+    line.len().max(at)
 }
 
 // Where the word after the one at `at` starts.
 pub fn next(line: &[u8], at: usize) -> usize {
-    wrapping_add_usize(find(line, at, b' '), 1)
+    find(line, at, b' ').wrapping_add(1)
 }
 
 // The value of a digit, also of a hexadecimal one.
@@ -51,23 +42,15 @@ pub fn digit(c: u8) -> u8 {
     }
 }
 
-fn ten_times(n: usize) -> usize {
-    let two = wrapping_add_usize(n, n);
-    let four = wrapping_add_usize(two, two);
-    wrapping_add_usize(wrapping_add_usize(four, four), two)
-}
-
 // The number at `at`, in decimal digits up to the next other byte.
 pub fn number(line: &[u8], at: usize) -> usize {
     let mut n: usize = 0;
-    let mut i = at;
-    while i < line.len() {
+    for i in at..line.len() {
         let c = line[i];
         if c < b'0' {
-            return n;
+            break;
         }
-        n = wrapping_add_usize(ten_times(n), digit(c) as usize);
-        i += 1;
+        n = n.wrapping_mul(10).wrapping_add(digit(c) as usize);
     }
     n
 }
