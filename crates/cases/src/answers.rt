@@ -8,86 +8,70 @@ pub fn print(rt: &impl Print, text: &[u8]) {
     let _ = rt.write_all(text);
 }
 
-pub fn count(rt: &impl Print, before: &[u8], value: usize) {
-    print(rt, before);
-    let _ = rt.print(value);
-}
-
-pub fn end(rt: &impl Print) {
-    print(rt, b"\n");
-}
-
-pub fn begin(rt: &impl Print, case: &[u8], call: &[u8], number: u32, place: usize) {
+pub fn begin(rt: &impl Print, case: &[u8], call: &str, number: u32, place: usize) {
     print(rt, case);
-    count(rt, call, number as usize);
-    count(rt, b" at ", place);
+    let _ = print!(rt; ": {call} {number} at {place}");
 }
 
 // The line of a check, of which `call` says the reading.
-pub fn checked(rt: &impl Print, case: &[u8], call: &[u8], answer: CheckAnswer) {
+pub fn checked(rt: &impl Print, case: &[u8], call: &str, answer: CheckAnswer) {
     begin(rt, case, call, answer.number, answer.place);
-    count(rt, b", directories ", answer.directories);
-    count(rt, b", icons ", answer.icons);
-    count(rt, b", opened ", answer.opened);
-    count(rt, b", longest ", answer.longest);
-    end(rt);
+    let _ = println!(
+        rt;
+        ", directories {}, icons {}, opened {}, longest {}",
+        answer.directories,
+        answer.icons,
+        answer.opened,
+        answer.longest
+    );
 }
 
 pub fn check(rt: &impl Print, case: &[u8], cache: &[u8]) {
     let answer = icon_cache::check(cache, Reading::Short);
-    checked(rt, case, b": check ", answer);
+    checked(rt, case, "check", answer);
 }
 
 // The line of a lookup, of which `call` says the way, left open for what is to be said of its words.
-pub fn begin_lookup(rt: &impl Print, case: &[u8], call: &[u8], answer: LookupAnswer) {
+pub fn begin_lookup(rt: &impl Print, case: &[u8], call: &str, answer: LookupAnswer) {
     begin(rt, case, call, answer.number, answer.place);
-    count(rt, b", images ", answer.images);
-    count(rt, b", opened ", answer.opened);
+    let _ = print!(rt; ", images {}, opened {}", answer.images, answer.opened);
 }
 
+// The words, and the end of the line.
 pub fn print_words(rt: &impl Print, words: &[u32]) {
-    if words.len() == 0 {
-        print(rt, b", no words");
+    if words.is_empty() {
+        let _ = println!(rt; ", no words");
         return;
     }
-    print(rt, b", words");
-    let mut i = 0;
-    while i < words.len() {
-        count(rt, b" ", cases_lent::wide(words[i]));
-        i += 1;
+    let _ = print!(rt; ", words");
+    for word in words {
+        let _ = print!(rt; " {word}");
     }
-}
-
-fn lookup_into(rt: &impl Print, case: &[u8], cache: &[u8], name: &[u8], words: &mut [u32]) {
-    let answer = icon_cache::lookup(cache, name, words);
-    begin_lookup(rt, case, b": lookup ", answer);
-    print_words(rt, words);
-    end(rt);
+    let _ = println!(rt; "");
 }
 
 // A lookup with `room` words lent, at most 6. Each holds 7 beforehand, so that an untouched one
 // shows.
 pub fn lookup(rt: &impl Print, case: &[u8], cache: &[u8], name: &[u8], room: usize) {
     let mut words = [7u32; 6];
-    lookup_into(rt, case, cache, name, cases_lent::front(&mut words, room));
-}
-
-fn plain_into(rt: &impl Print, case: &[u8], cache: &[u8], name: &[u8], words: &mut [u32]) {
-    let answer = plain_lookup::plain_lookup(cache, name, words);
-    begin_lookup(rt, case, b": plain lookup ", answer);
-    print_words(rt, words);
-    end(rt);
+    let lent = cases_lent::front(&mut words, room);
+    let answer = icon_cache::lookup(cache, name, lent);
+    begin_lookup(rt, case, "lookup", answer);
+    print_words(rt, lent);
 }
 
 // A plain lookup with words lent in the same way.
 pub fn plain_lookup(rt: &impl Print, case: &[u8], cache: &[u8], name: &[u8], room: usize) {
     let mut words = [7u32; 6];
-    plain_into(rt, case, cache, name, cases_lent::front(&mut words, room));
+    let lent = cases_lent::front(&mut words, room);
+    let answer = plain_lookup::plain_lookup(cache, name, lent);
+    begin_lookup(rt, case, "plain lookup", answer);
+    print_words(rt, lent);
 }
 
 pub fn directory(rt: &impl Print, case: &[u8], cache: &[u8], index: usize) {
     let answer = icon_cache::directory(cache, index);
-    begin(rt, case, b": directory ", answer.number, answer.place);
+    begin(rt, case, "directory", answer.number, answer.place);
     print(rt, b", path \"");
     print(rt, icon_cache::directory_path(cache, index));
     print(rt, b"\"\n");
@@ -95,46 +79,30 @@ pub fn directory(rt: &impl Print, case: &[u8], cache: &[u8], index: usize) {
 
 pub fn step(rt: &impl Print, case: &[u8], cache: &[u8], from: Position) {
     let answer = from.next(cache);
-    let next = answer.next;
-    begin(rt, case, b": step ", answer.number, answer.place);
-    count(rt, b", record ", answer.record);
-    count(rt, b", bucket ", next.bucket);
-    count(rt, b", count ", next.count);
-    end(rt);
+    let Position { bucket, count } = answer.next;
+    begin(rt, case, "step", answer.number, answer.place);
+    let _ = println!(rt; ", record {}, bucket {bucket}, count {count}", answer.record);
 }
 
 // The hash of the name at the front of `part`.
 pub fn hash(rt: &impl Print, case: &[u8], part: &[u8]) {
     print(rt, case);
-    count(rt, b": hash ", strings::read_name(part).hash as usize);
-    end(rt);
+    let _ = println!(rt; ": hash {}", strings::read_name(part).hash);
 }
 
 // One call for flags; its case is named by what is given.
-fn turn(rt: &impl Print, given: u16, numbering: u32, call: &[u8], answer: FlagsAnswer) {
-    count(rt, b"flags ", given as usize);
-    count(rt, b" and numbering ", numbering as usize);
+fn turn(rt: &impl Print, given: u16, numbering: u32, call: &str, answer: FlagsAnswer) {
+    let _ = print!(rt; "flags {given} and numbering {numbering}");
     begin(rt, b"", call, answer.number, answer.place);
-    count(rt, b", flags ", answer.flags as usize);
-    end(rt);
+    let _ = println!(rt; ", flags {}", answer.flags);
 }
 
 // Both calls for flags, with the low 16 bits of `a` and the low 32 of `b`.
 pub fn flags(rt: &impl Print, a: usize, b: usize) {
     let given = (a % 65536) as u16;
     let numbering = (b % 4294967296) as u32;
-    turn(
-        rt,
-        given,
-        numbering,
-        b": in ",
-        flags::flags_in(given, numbering),
-    );
-    turn(
-        rt,
-        given,
-        numbering,
-        b": out ",
-        flags::flags_out(given, numbering),
-    );
+    let inward = flags::flags_in(given, numbering);
+    turn(rt, given, numbering, "in", inward);
+    let outward = flags::flags_out(given, numbering);
+    turn(rt, given, numbering, "out", outward);
 }

@@ -3,12 +3,11 @@ use crate::{answers, catalogues, icons, image_notes, images, picks, salvages};
 use cases_made::script;
 use cases_made::script::Words;
 use listing::Position;
-use std::num::wrapping_add_usize;
 
 // The lookups and the picks. A query's name is a part of the buffer.
 fn look_up(rt: &impl Print, case: &[u8], line: &[u8], w: Words, buffer: &[u8], cache: &[u8]) {
     let name = script::rest(line, w.second);
-    let to = wrapping_add_usize(w.b, w.c);
+    let to = w.b.wrapping_add(w.c);
     let command = w.command;
     match command {
         b'l' => answers::lookup(rt, case, cache, name, w.a),

@@ -5,8 +5,8 @@ use crate::answers;
 pub fn lookup(rt: &impl Print, case: &[u8], cache: &[u8], name: &[u8], room: usize) {
     let mut words = [7u32; 2048];
     let answer = icon_cache::lookup(cache, name, cases_lent::front(&mut words, room));
-    answers::begin_lookup(rt, case, b": lookup ", answer);
-    answers::count(rt, b", images right ", cases_lent::count_right(&words));
-    answers::count(rt, b", sum of the words ", cases_lent::sum(&words));
-    answers::end(rt);
+    let right = cases_lent::count_right(&words);
+    let sum = cases_lent::sum(&words);
+    answers::begin_lookup(rt, case, "lookup", answer);
+    let _ = println!(rt; ", images right {right}, sum of the words {sum}");
 }

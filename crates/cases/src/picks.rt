@@ -16,8 +16,8 @@ fn pick_with(
     directories: &[u32],
 ) {
     let answer = pick::pick(cache, name, low(w.b), low(w.c), directories);
-    answers::begin(rt, case, b": pick ", answer.number, answer.place);
-    answers::end(rt);
+    answers::begin(rt, case, "pick", answer.number, answer.place);
+    let _ = println!(rt; "");
 }
 
 // A pick for size `w.b` and scale `w.c` with `w.a` words lent, at most 24.

@@ -5,6 +5,8 @@ ghost use Rattle.std.specs.Prelude.{◌≡◌};
 ghost use Rattle.check_cache.specs.Line.{line_of, line_for};
 
 use format::{CheckAnswer, Reading};
+use std::fmt;
+use std::fmt::Display;
 
 // The largest cache that is judged, in bytes.
 const LARGEST: usize = 65536;
@@ -55,40 +57,23 @@ fn line_for(input: &[u8]) -> Line
     }
 }
 
-// A write that fails is passed over, and what comes after it is tried all the same.
-fn print_text(rt: &impl Print, text: &[u8]) {
-    let _ = rt.write_all(text);
-}
-
-fn print_count(rt: &impl Print, before: &[u8], count: usize) {
-    print_text(rt, before);
-    let _ = rt.print(count);
-}
-
-fn print(rt: &impl Print, line: Line) {
-    match line {
-        Line::Accepted {
-            icons,
-            directories,
-            longest,
-        } => {
-            print_count(rt, b"accepted ", icons);
-            print_count(rt, b" icons ", directories);
-            print_count(rt, b" directories longest ", longest);
-            print_text(rt, b"\n");
-        }
-        Line::Refused {
-            number,
-            place,
-            opened,
-        } => {
-            print_count(rt, b"refused ", number as usize);
-            print_count(rt, b" at ", place);
-            print_count(rt, b" opened ", opened);
-            print_text(rt, b"\n");
-        }
-        Line::TooLarge => {
-            print_text(rt, b"too large for this program\n");
+impl Display for Line {
+    fn fmt<W: fmt::Write>(&self, f: &mut fmt::Formatter<W>) -> fmt::Result {
+        match self {
+            Line::Accepted {
+                icons,
+                directories,
+                longest,
+            } => write!(
+                f,
+                "accepted {icons} icons {directories} directories longest {longest}"
+            ),
+            Line::Refused {
+                number,
+                place,
+                opened,
+            } => write!(f, "refused {number} at {place} opened {opened}"),
+            Line::TooLarge => write!(f, "too large for this program"),
         }
     }
 }
@@ -98,5 +83,6 @@ fn print(rt: &impl Print, line: Line) {
 fn main(rt: HostRuntime) {
     let mut input = [0u8; 65537];
     let n = input::read_full(&mut rt.stdin(), &mut input);
-    print(&rt, line_for(&input[..n]));
+    // A write that fails is passed over.
+    let _ = println!(rt; "{}", line_for(&input[..n]));
 }

@@ -1,9 +1,0 @@
--- `cases::answers::print_words` ends: one word each turn.
-use Rattle.std.proofs.Common.{◌-◌, length}
-use Rattle.cases.proofs.answers.print_words.Given as goal
-
-abbrev pub invariant-loop-i : goal.invariant-loop-i
-invariant-loop-i g l = Unit {0}
-
-abbrev pub decreases-loop-i : goal.decreases-loop-i
-decreases-loop-i g l = length l.words - l.i
