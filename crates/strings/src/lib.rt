@@ -3,9 +3,10 @@
 // is handed over as the part of the buffer from its offset on.
 #![tactic(auto)]
 
-ghost use Rattle.std.specs.Prelude.{◌≡◌, ℕ, ◌*◌, ◌%◌, ◌^◌, true, List, length, take, drop};
+ghost use Rattle.std.specs.Prelude.{◌≡◌, ℕ, ◌*◌, ◌%◌, ◌^◌, true, false, List, length, take, drop, Some, None, MatchResult, if◌then◌else◌};
 ghost use Rattle.format.specs.String.{string, extent, is_whole, string_fault, spells_name, hash, text_within, allowed};
 ghost use Rattle.format.specs.String as definition;
+ghost use Rattle.format.specs.declared.Extent.TheVariants.{Whole};
 
 use format::{Extent, Fault};
 use std::num::{wrapping_add_u8, wrapping_add_u32, wrapping_sub_u32};
@@ -14,13 +15,6 @@ use std::num::{wrapping_add_u8, wrapping_add_u32, wrapping_sub_u32};
 #[derive(Clone, Copy)]
 pub struct Name {
     pub extent: Extent,
-    pub hash: u32,
-}
-
-// Whether a name may be asked for, and its hash where it may.
-#[derive(Clone, Copy)]
-pub struct Query {
-    pub allowed: bool,
     pub hash: u32,
 }
 
@@ -46,25 +40,18 @@ pub fn ended(n: usize) -> Extent
     }
 }
 
-// The rule that a string breaks by what it is: `rule` where it is empty or too long, 17 where it is
-// cut off.
-pub fn judge(extent: Extent, rule: u32, place: usize) -> Fault
-    ensures { result ≡ string_fault extent rule place }
+// How many bytes a whole string has, or the rule that a string breaks by what it is: `rule` where
+// it is empty or too long, 17 where it is cut off.
+pub fn judge(extent: Extent, rule: u32, place: usize) -> Result<usize, Fault>
+    ensures { MatchResult result (λ n. extent ≡ Whole n) (λ fault. (is_whole extent ≡ false) × (fault ≡ string_fault extent rule place)) }
 {
     match extent {
-        Extent::Whole(_) => Fault {
-            number: 0,
-            place: 0,
-        },
-        Extent::Empty => Fault {
+        Extent::Whole(n) => Ok(n),
+        Extent::Empty | Extent::Long => Err(Fault {
             number: rule,
             place,
-        },
-        Extent::Long => Fault {
-            number: rule,
-            place,
-        },
-        Extent::Cut => Fault { number: 17, place },
+        }),
+        Extent::Cut => Err(Fault { number: 17, place }),
     }
 }
 
@@ -106,9 +93,8 @@ pub fn read_name(part: &[u8]) -> Name
     ensures hash { result.hash ≡ hash (take 255 (string part.now)) }
 {
     let mut hash = 0;
-    let mut i = 0;
-    while i < part.len() {
-        let byte = part[i];
+    for (i, byte) in part.iter().enumerate() {
+        let byte = *byte;
         if byte == 0 {
             return Name {
                 extent: ended(i),
@@ -123,7 +109,6 @@ pub fn read_name(part: &[u8]) -> Name
         }
         // h = (h << 5) - h + *p
         hash = wrapping_add_u32(times31(hash), signed(byte));
-        i += 1;
     }
     Name {
         extent: Extent::Cut,
@@ -152,17 +137,7 @@ pub fn spells(part: &[u8], name: &[u8]) -> bool
     ensures { result ≡ spells_name part.now name.now }
 {
     let end = name.len();
-    if part.len() <= end {
-        return false;
-    }
-    let mut i = 0;
-    while i < end {
-        if part[i] != name[i] {
-            return false;
-        }
-        i += 1;
-    }
-    part[end] == 0
+    part.len() > end && part.starts_with(name) && part[end] == 0
 }
 
 // Whether a text of `size` bytes has 1 to a limit of them and none is zero, by what the text is as
@@ -179,15 +154,15 @@ pub fn within(size: usize, extent: Extent) -> bool
     }
 }
 
-// Whether `name` may be asked for, with 1 to 255 bytes and none of them zero, and its hash.
-pub fn asked(name: &[u8]) -> Query
-    ensures allowed { result.allowed ≡ allowed name.now }
-    ensures hash { result.hash ≡ hash (take 255 (string name.now)) }
+// The hash of `name`, if it may be asked for, with 1 to 255 bytes and none of them zero.
+pub fn asked(name: &[u8]) -> Option<u32>
+    ensures { result ≡ (if allowed name.now then Some (hash name.now) else None) }
 {
     let read = read_name(name);
     let extent = read.extent;
-    Query {
-        allowed: within(name.len(), extent),
-        hash: read.hash,
+    if within(name.len(), extent) {
+        Some(read.hash)
+    } else {
+        None
     }
 }
