@@ -35,11 +35,7 @@ fn valid_to(part: &[u8], before: bool, start: usize, end: usize) -> bool
     requires { (start ≤ end) × (end ≤ length part.now) }
     ensures { result ≡ (before && valid_segment (take (end - start) (drop start part.now))) }
 {
-    if before {
-        valid_segment(&part[start..end])
-    } else {
-        false
-    }
+    before && valid_segment(&part[start..end])
 }
 
 // What the string at the front of `part` is as a path, and whether its segments are valid. One loop
@@ -50,9 +46,8 @@ pub fn read_path(part: &[u8]) -> Path
 {
     let mut valid = true;
     let mut start = 0;
-    let mut i = 0;
-    while i < part.len() {
-        let byte = part[i];
+    for (i, byte) in part.iter().enumerate() {
+        let byte = *byte;
         if byte == 0 {
             let valid_segments = valid_to(part, valid, start, i);
             return Path {
@@ -70,11 +65,10 @@ pub fn read_path(part: &[u8]) -> Path
             valid = valid_to(part, valid, start, i);
             start = i + 1;
         }
-        i += 1;
     }
     Path {
         extent: Extent::Cut,
-        valid_segments: valid_to(part, valid, start, i),
+        valid_segments: valid_to(part, valid, start, part.len()),
     }
 }
 

@@ -5,14 +5,12 @@ use mathlib.Core.Path.{◌≡◌, refl}
 use mathlib.Core.List.{List, [], ◌∷◌}
 use mathlib.Core.Bool.{Bool, true, false, not, ◌&&◌, and-true, and-false}
 use native.Mathlib.Omega.{arith}
-use borrow.Author.Rules.{rules}
 use borrow.Author.Tests.{eq-eqb, ne_eqb}
 use lib.Dec.{eqb}
 use lib.ListN.{length, get_or}
 use Rattle.format.specs.String.{same_bytes}
 use Rattle.format.specs.Segments.{dot, valid_segment}
-use Rattle.paths.proofs.valid_segment.Statement.{statement}
-use Rattle.paths.proofs.valid_segment.Tie as tie
+use Rattle.paths.proofs.valid_segment.Goals as goal
 
 -- at a length, by the first two bytes
 abbrev arms : ℕ → ℕ → ℕ → Bool
@@ -28,33 +26,20 @@ tested (a ∷ []) = simp (and-true, and-false)
 tested (a ∷ b ∷ []) = simp (and-true, and-false)
 tested (a ∷ b ∷ c ∷ p) = simp and-false
 
-returns : tie.Need-returns-in-0
-returns c = rw (tested, c.in-0.is)
+pub returns-in-0 : goal.returns-in-0
+returns-in-0 c = rw (tested, c.in-0.is)
 
-returns-2 : tie.Need-returns-in-1
-returns-2 c = rw (tested, c.in-1.is)
+pub returns-in-1 : goal.returns-in-1
+returns-in-1 c = rw (tested, c.in-1.is)
 
-returns-3 : tie.Need-returns-then-segment-ne46
-returns-3 c = rw (tested, c.in-2.is, ne_eqb _ _ c.if-segment-ne46.true)
+pub returns-then-segment-ne46 : goal.returns-then-segment-ne46
+returns-then-segment-ne46 c = rw (tested, c.in-2.is, ne_eqb _ _ c.if-segment-ne46.true)
 
-returns-4 : tie.Need-returns-else-segment-ne46
-returns-4 c = rw (tested, c.in-2.is, eq-eqb _ _ c.if-segment-ne46.false)
+pub returns-else-segment-ne46 : goal.returns-else-segment-ne46
+returns-else-segment-ne46 c = rw (tested, c.in-2.is, eq-eqb _ _ c.if-segment-ne46.false)
 
-returns-5 : tie.Need-returns-in_default
-returns-5 c =
+pub returns-in_default : goal.returns-in_default
+returns-in_default c =
     let n = length c.args.segment.now in
     let more : n ≡ suc (suc (suc (n - 3))) = omega arith in
     rw (tested, more)
-
-pub valid_segment_spec : {M : Type 1} → statement M
-valid_segment_spec =
-    tie.close
-    (tie.spec
-    (λ c. search rules)
-    (λ c. search rules)
-    (λ c. search rules)
-    returns
-    returns-2
-    returns-3
-    returns-4
-    returns-5)
