@@ -4,7 +4,10 @@ use Rattle.std.specs.Prelude.{ℕ, ◌<◌, ◌≡◌, refl, ◌⊎◌, List, []
 use Rattle.std.proofs.Common.{sym, ◌∙◌, inl, inr, arith}
 use Rattle.std.proofs.Math.Decide.{dec_lt}
 use borrow.Author.Tests.{lt-ltb, le-ltb}
-use Rattle.keys.specs.declared.Ordering.TheVariants.{Less, Equal, Greater}
+use Rattle.std.specs.Ordering.{nat_cmp}
+use Rattle.std.specs.Cmp.Lexicographic.{slice_cmp}
+use Rattle.std.proofs.lemmas.Bool.Decides.{nat_tests}
+use Rattle.std.specs.declared.cmp.Ordering.TheVariants.{Less, Equal, Greater}
 use Rattle.keys.specs.Order.{order}
 
 -- how two numbers compare
@@ -122,3 +125,15 @@ numbers-less x y e = go (less-because x y [] [] e)
     go : (x < y) ⊎ ((x ≡ y) × (order [] [] ≡ Less)) → x < y
     go (inl h) = h
     go (inr h) = absurd (not-less-than-itself [] h.1)
+
+-- the order of keys is how their numbers compare, first by first, by the library's order of numbers
+pub by_numbers : (a b : List ℕ) → slice_cmp nat_cmp a b ≡ order a b
+unfolding order
+by_numbers [] [] = refl
+by_numbers [] (y ∷ b) = refl
+by_numbers (x ∷ a) [] = refl
+by_numbers (x ∷ a) (y ∷ b) = grind (arith, nat_tests, by_numbers a b)
+
+pub by_number : (x y : ℕ) → nat_cmp x y ≡ order (x ∷ []) (y ∷ [])
+unfolding order
+by_number x y = grind (arith, nat_tests)

@@ -1,12 +1,13 @@
 // How the keys of two offsets of a buffer compare, by their kind.
 #![tactic(auto)]
 
-ghost use Rattle.std.specs.Prelude.{◌≡◌, [], ◌∷◌, take, get_or};
+ghost use Rattle.std.specs.Prelude.{◌≡◌, take, get_or};
 ghost use Rattle.format.specs.String.{string};
 ghost use Rattle.keys.specs.Order.{order};
 ghost use Rattle.keys.specs.Key.{name_after, list_from, key_at};
 
 use bigendian::u32_at;
+use std::cmp::Ordering;
 use strings::from;
 
 // What the key of an offset is.
@@ -22,26 +23,18 @@ pub enum Kind {
     Images,
 }
 
-// How one key compares with another.
-#[derive(Clone, Copy)]
-pub enum Ordering {
-    Less,
-    Equal,
-    Greater,
-}
-
 // The byte at `i`, and 0 past the end.
 fn byte(s: &[u8], i: usize) -> u8
     ensures { result ≡ get_or s.now i 0 }
 {
-    if i < s.len() { s[i] } else { 0 }
+    s.get(i).copied().unwrap_or(0)
 }
 
 // The first `n` bytes, and no more than there are.
 fn front(s: &[u8], n: usize) -> &[u8]
     ensures { result.now ≡ take n s.now }
 {
-    if n <= s.len() { &s[..n] } else { s }
+    &s[..n.min(s.len())]
 }
 
 // The name that follows the byte at `at`, which says how long it is.
@@ -70,63 +63,22 @@ fn list_from(s: &[u8], at: u32) -> &[u8]
 fn compare_strings(a: &[u8], b: &[u8]) -> Ordering
     ensures { result ≡ order (string a.now) (string b.now) }
 {
-    let mut i = 0;
-    while i < a.len() {
-        let x = a[i];
+    for (i, x) in a.iter().enumerate() {
         let y = byte(b, i);
-        if x < y {
+        if *x < y {
             return Ordering::Less;
         }
-        if y < x {
+        if y < *x {
             return Ordering::Greater;
         }
-        if x == 0 {
+        if *x == 0 {
             return Ordering::Equal;
         }
-        i += 1;
     }
-    if byte(b, i) == 0 {
+    if byte(b, a.len()) == 0 {
         Ordering::Equal
     } else {
         Ordering::Less
-    }
-}
-
-// How all the bytes of `a` compare with those of `b`.
-fn compare_bytes(a: &[u8], b: &[u8]) -> Ordering
-    ensures { result ≡ order a.now b.now }
-{
-    let mut i = 0;
-    while i < a.len() {
-        if i == b.len() {
-            return Ordering::Greater;
-        }
-        if a[i] < b[i] {
-            return Ordering::Less;
-        }
-        if b[i] < a[i] {
-            return Ordering::Greater;
-        }
-        i += 1;
-    }
-    if i == b.len() {
-        Ordering::Equal
-    } else {
-        Ordering::Less
-    }
-}
-
-// How the number `a` compares with `b`.
-fn compare_numbers(a: u32, b: u32) -> Ordering
-    ensures { result ≡ order (a ∷ []) (b ∷ []) }
-{
-    if a < b {
-        return Ordering::Less;
-    }
-    if b < a {
-        Ordering::Greater
-    } else {
-        Ordering::Equal
     }
 }
 
@@ -139,8 +91,8 @@ pub fn compare(s: &[u8], kind: Kind, a: u32, b: u32) -> Ordering
     }
     match kind {
         Kind::Ended => compare_strings(from(s, a as usize), from(s, b as usize)),
-        Kind::Counted => compare_bytes(name_after(s, a), name_after(s, b)),
-        Kind::Offset => compare_numbers(a, b),
-        Kind::Images => compare_bytes(list_from(s, a), list_from(s, b)),
+        Kind::Counted => name_after(s, a).cmp(&name_after(s, b)),
+        Kind::Offset => a.cmp(&b),
+        Kind::Images => list_from(s, a).cmp(&list_from(s, b)),
     }
 }
