@@ -1,9 +1,7 @@
 -- An index: offsets, in rising order of their keys. `key` says what the key of an offset is.
-use Rattle.std.specs.Prelude.{ℕ, ◌+◌, ◌≤◌, ◌<◌, ◌≡◌, ◌↔◌, List, ◌∷◌, Bool, true, get_or, if◌then◌else◌}
+use Rattle.std.specs.Prelude.{ℕ, ◌+◌, ◌≤◌, ◌<◌, ◌≡◌, ◌↔◌, List, ◌∷◌, Bool, true, get_or, if◌then◌else◌, Result, Ok, Err}
 use Rattle.format.specs.String.{among}
-use Rattle.keys.specs.declared.Ordering.TheVariants.{Less}
-use Rattle.names.specs.declared.Spot.{Spot}
-use Rattle.names.specs.declared.Spot.TheVariants.{Found, Missing}
+use Rattle.std.specs.declared.cmp.Ordering.TheVariants.{Less}
 use Rattle.keys.specs.Order.{order}
 
 -- the key of entry i
@@ -24,10 +22,10 @@ pub record Represents (key : ℕ → List ℕ) (index : List ℕ) (n : ℕ) (bef
   pub rising : Rising key index n
   pub exact : (t : List ℕ) → Holds key index n t ↔ (among t before ≡ true)
 
--- a spot of an index with n entries
-abbrev pub Within : ℕ → Spot → Type 0
-Within n (Found i) = i < n
-Within n (Missing i) = i ≤ n
+-- a spot of an index with n entries: that of an entry, or one that an entry would have
+abbrev pub Within : ℕ → Result ℕ ℕ → Type 0
+Within n (Ok i) = i < n
+Within n (Err i) = i ≤ n
 
 -- the key t is greater than those before entry `low`, and less than those from entry `high` on
 pub record Between (key : ℕ → List ℕ) (index : List ℕ) (n : ℕ) (t : List ℕ) (low high : ℕ) : Type 0 where
@@ -36,9 +34,9 @@ pub record Between (key : ℕ → List ℕ) (index : List ℕ) (n : ℕ) (t : Li
 
 -- what a spot says of the key of p: the entry there has it, or it is greater than those before the
 -- spot and less than those from it on
-abbrev pub Spotted : (ℕ → List ℕ) → List ℕ → ℕ → ℕ → Spot → Type 0
-Spotted key index n p (Found i) = entry key index i ≡ key p
-Spotted key index n p (Missing i) = Between key index n (key p) i i
+abbrev pub Spotted : (ℕ → List ℕ) → List ℕ → ℕ → ℕ → Result ℕ ℕ → Type 0
+Spotted key index n p (Ok i) = entry key index i ≡ key p
+Spotted key index n p (Err i) = Between key index n (key p) i i
 
 -- p is made entry i of n
 pub record Inserted (old new : List ℕ) (n i p : ℕ) : Type 0 where

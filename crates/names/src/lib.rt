@@ -8,39 +8,15 @@ ghost use Rattle.format.specs.String.{among};
 ghost use Rattle.keys.specs.Key.{key_at};
 ghost use Rattle.names.specs.Index.{Rising, Represents, Within, Spotted, Inserted, Answered};
 
-use keys::{Kind, Ordering, compare};
+use keys::{Kind, compare};
 
-// The entry of an index that has a key, or the one that it would be.
-#[derive(Clone, Copy)]
-pub enum Spot {
-    Found(usize),
-    Missing(usize),
-}
-
-// Which of the first `n` entries has the key of `at`, or would have it, by halving.
-pub fn find(s: &[u8], kind: Kind, index: &[u32], n: usize, at: u32) -> Spot
+// Which of the first `n` entries has the key of `at`, or where it would stand.
+pub fn find(s: &[u8], kind: Kind, index: &[u32], n: usize, at: u32) -> Result<usize, usize>
     requires { n ≤ length index.now }
     ensures within { Within n result }
     ensures spotted { Rising (key_at kind s.now) index.now n → Spotted (key_at kind s.now) index.now n at result }
 {
-    let mut low = 0;
-    let mut high = n;
-    while low < high {
-        let middle = low + (high - low) / 2;
-        let order = compare(s, kind, index[middle], at);
-        match order {
-            Ordering::Less => {
-                low = middle + 1;
-            }
-            Ordering::Equal => {
-                return Spot::Found(middle);
-            }
-            Ordering::Greater => {
-                high = middle;
-            }
-        }
-    }
-    Spot::Missing(low)
+    index[..n].binary_search_by(|entry| compare(s, kind, *entry, at))
 }
 
 // Makes `at` the entry `i`; the entries from `i` to `n` move one further.
@@ -48,11 +24,7 @@ pub fn insert(index: &mut [u32], n: usize, i: usize, at: u32)
     requires { (i ≤ n) × (n < length index.old) }
     ensures { Inserted index.old index.new n i at }
 {
-    let mut hole = n;
-    while i < hole {
-        index[hole] = index[hole - 1];
-        hole -= 1;
-    }
+    index.copy_within(i..n, i + 1);
     index[i] = at;
 }
 
@@ -61,11 +33,7 @@ pub fn holds(s: &[u8], kind: Kind, index: &[u32], n: usize, at: u32) -> bool
     requires { n ≤ length index.now }
     ensures { (before : List (List ℕ)) → Represents (key_at kind s.now) index.now n before → result ≡ among (key_at kind s.now at) before }
 {
-    let spot = find(s, kind, index, n, at);
-    match spot {
-        Spot::Found(_) => true,
-        Spot::Missing(_) => false,
-    }
+    find(s, kind, index, n, at).is_ok()
 }
 
 // Whether the key of `at` was met before: whether one of the first `n` entries has it. If none has,
@@ -74,10 +42,9 @@ pub fn met(s: &[u8], kind: Kind, index: &mut [u32], n: usize, at: u32) -> bool
     requires { n < length index.old }
     ensures { (before : List (List ℕ)) → Represents (key_at kind s.now) index.old n before → Answered (key_at kind s.now) index.new n at before result }
 {
-    let spot = find(s, kind, index, n, at);
-    match spot {
-        Spot::Found(_) => true,
-        Spot::Missing(i) => {
+    match find(s, kind, index, n, at) {
+        Ok(_) => true,
+        Err(i) => {
             insert(index, n, i, at);
             false
         }

@@ -6,7 +6,7 @@ use Rattle.std.proofs.lemmas.Bool.{false≢true}
 use Rattle.std.proofs.Math.Decide.{dec_lt}
 use Rattle.format.specs.String.{among}
 use Rattle.format.proofs.Laws.Names.{among_first_lem, among-rest, among-either}
-use Rattle.keys.specs.declared.Ordering.TheVariants.{Less}
+use Rattle.std.specs.declared.cmp.Ordering.TheVariants.{Less}
 use Rattle.keys.specs.Order.{order}
 use Rattle.names.specs.Index.{entry, Rising, Holds, Represents, Between, Inserted, Answered}
 use Rattle.keys.proofs.Laws.{numbers-less}
