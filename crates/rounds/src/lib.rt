@@ -2,14 +2,13 @@
 // record are read, and nothing is judged.
 #![tactic(auto)]
 
-ghost use Rattle.std.specs.Prelude.{◌≡◌, ◌+◌, ◌^◌, ◌≤◌, ◌<◌, length};
+ghost use Rattle.std.specs.Prelude.{◌≡◌, ◌+◌, ◌^◌, ◌≤◌, ◌<◌, length, IfSome};
 ghost use Rattle.rounds.specs.Stepping.{InsideBelow, Runs, LeadsIn, Turning};
 ghost use Rattle.rounds.specs.Stepping as definition;
 
 use bigendian::u32_at;
 
-// A round: `start` steps lead to a field of it, and `steps` more lead back to that field. 0 steps
-// where none is found.
+// A round: `start` steps lead to a field of it, and `steps` more lead back to that field.
 #[derive(Clone, Copy)]
 pub struct Round {
     pub start: usize,
@@ -22,42 +21,40 @@ pub fn ahead(cache: &[u8], field: usize, steps: usize) -> usize
     ensures { result ≡ definition.ahead cache.now field steps }
 {
     let mut at = field;
-    let mut step = 0;
-    while step < steps {
+    for _step in 0..steps {
         at = u32_at(cache, at) as usize;
-        step += 1;
     }
     at
 }
 
 // A round that is found within `most` steps from `field` on. One field is remembered; as soon as
 // the way from it is longer than the way to it, the one at hand takes its place (Brent's way).
-fn find(cache: &[u8], field: usize, most: usize) -> Round
+fn find(cache: &[u8], field: usize, most: usize) -> Option<Round>
     requires { (field + 4 ≤ length cache.now) × (most < length cache.now) × (length cache.now ≤ 2 ^ 24) }
-    ensures { Runs cache.now field most result }
+    ensures runs { IfSome result (λ round. Runs cache.now field most round) }
+    ensures onward { IfSome result (λ round. 0 < round.steps) }
 {
     let mut at = field;
-    let mut step = 0;
     let mut mark = field;
     let mut start = 0;
-    while step < most {
+    for done in 0..most {
+        let step = done + 1;
         at = u32_at(cache, at) as usize;
-        step += 1;
         if cache.len() < at + 12 {
-            return Round { start: 0, steps: 0 };
+            return None;
         }
         if at == mark {
-            return Round {
+            return Some(Round {
                 start,
                 steps: step - start,
-            };
+            });
         }
         if 2 * start < step {
             mark = at;
             start = step;
         }
     }
-    Round { start: 0, steps: 0 }
+    None
 }
 
 // The first of the steps from `field` on from which the round runs.
@@ -67,16 +64,14 @@ pub fn lead_in(cache: &[u8], field: usize, round: Round) -> usize
 {
     let mut slow = field;
     let mut fast = ahead(cache, field, round.steps);
-    let mut step = 0;
-    while step < round.start {
+    for step in 0..round.start {
         if slow == fast {
             return step;
         }
         slow = u32_at(cache, slow) as usize;
         fast = u32_at(cache, fast) as usize;
-        step += 1;
     }
-    step
+    round.start
 }
 
 // After how many steps from `field` on a field is met again, but `done` at least. It is looked from
@@ -86,15 +81,14 @@ pub fn turning(cache: &[u8], field: usize, done: usize, at: usize, far: usize) -
     requires inside_below { InsideBelow cache.now field (done + 1) × (at ≡ definition.ahead cache.now field done) }
     ensures { Turning cache.now field done far result }
 {
-    let seen = find(cache, at, far - done);
-    if seen.steps == 0 {
+    let Some(seen) = find(cache, at, far - done) else {
         return far;
-    }
+    };
     let steps = seen.steps;
     let round = Round {
         start: done + seen.start,
         steps,
     };
     let back = lead_in(cache, field, round) + steps;
-    if back < done { done } else { back }
+    back.max(done)
 }
