@@ -7,7 +7,9 @@ use Rattle.format.specs.Number.{be}
 use Rattle.format.specs.Fault.{unless}
 use Rattle.format.specs.Header.{directories}
 use Rattle.format.specs.Record.{valid_index, valid_image}
-use Rattle.flags.specs.Flags.{Flag, bitmap, xpm, svg, icon_file, Numbering, freedesktop, gtk, flag_bit, renumbered, numbering, known, valid_flags, flags_is, answer, flags_in, ThereAndBack}
+use Rattle.flags.specs.declared.Numbering.{Numbering}
+use Rattle.flags.specs.declared.Numbering.TheVariants.{Freedesktop, Gtk}
+use Rattle.flags.specs.Flags.{Flag, bitmap, xpm, svg, icon_file, flag_bit, renumbered, numbering, known, valid_flags, flags_is, answer, flags_in, ThereAndBack}
 
 -- two functions agree on each number below n, as a test that antt computes
 abbrev pub agree_below : ℕ → (ℕ → ℕ) → (ℕ → ℕ) → Bool
@@ -26,20 +28,20 @@ unfolding renumbered
 same-numbering n x l = agree 16 (renumbered n n) (λ y. y) (computed n) x (omega arith)
   where
     computed : (n : Numbering) → agree_below 16 (renumbered n n) (λ y. y) ≡ true
-    computed freedesktop = refl
-    computed gtk = refl
+    computed Freedesktop = refl
+    computed Gtk = refl
 
 -- each flag is set in the result exactly if it was set before
 pub same_flags : (n m : Numbering) (x : ℕ) (f : Flag) → flag_bit m (renumbered n m x) f ≡ flag_bit n x f
 unfolding renumbered
-same_flags n freedesktop x bitmap = omega arith
-same_flags n freedesktop x xpm = omega arith
-same_flags n freedesktop x svg = omega arith
-same_flags n freedesktop x icon_file = omega arith
-same_flags n gtk x bitmap = omega arith
-same_flags n gtk x xpm = omega arith
-same_flags n gtk x svg = omega arith
-same_flags n gtk x icon_file = omega arith
+same_flags n Freedesktop x bitmap = omega arith
+same_flags n Freedesktop x xpm = omega arith
+same_flags n Freedesktop x svg = omega arith
+same_flags n Freedesktop x icon_file = omega arith
+same_flags n Gtk x bitmap = omega arith
+same_flags n Gtk x xpm = omega arith
+same_flags n Gtk x svg = omega arith
+same_flags n Gtk x icon_file = omega arith
 
 -- there and back is the identity, over any two numberings
 pub renumbered-back : (n m : Numbering) (x : ℕ) → x ≤ 15 → renumbered m n (renumbered n m x) ≡ x
@@ -50,8 +52,8 @@ renumbered-back n m x small =
 -- whatever the number, no more than the four flags is left of it
 pub renumbered-small : (n m : Numbering) (x : ℕ) → renumbered n m x ≤ 15
 unfolding renumbered
-renumbered-small n freedesktop x = omega arith
-renumbered-small n gtk x = omega arith
+renumbered-small n Freedesktop x = omega arith
+renumbered-small n Gtk x = omega arith
 
 pub valid-facts : (x j k : ℕ) → valid_flags x j k ≡ true → (x ≤ 15) × (j ≤ 1) × (k ≤ 1)
 valid-facts x j k e =

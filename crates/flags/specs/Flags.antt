@@ -4,6 +4,8 @@ use Rattle.std.specs.Prelude.{ℕ, zero, suc, ◌+◌, ◌*◌, ◌/◌, ◌%◌
 use Rattle.format.specs.Layout.{most_flags}
 use Rattle.format.specs.Fault.{unless, if_kept}
 use Rattle.flags.specs.declared.FlagsAnswer.{FlagsAnswer}
+use Rattle.flags.specs.declared.Numbering.{Numbering}
+use Rattle.flags.specs.declared.Numbering.TheVariants.{Freedesktop, Gtk}
 
 -- the flags, in the order of source document 000's ICON_FLAGS: HAS_SUFFIX_PNG, HAS_SUFFIX_XPM,
 -- HAS_SUFFIX_SVG, HAS_ICON_FILE
@@ -13,24 +15,18 @@ pub data Flag : Type 0 where
   svg : Flag
   icon_file : Flag
 
--- document 01's numbering, which is that of the freedesktop note, and the other of request 5, which
--- GTK's generator writes
-pub data Numbering : Type 0 where
-  freedesktop : Numbering
-  gtk : Numbering
-
 -- at which bit a flag stands
 abbrev pub bit : Numbering → Flag → ℕ
 -- bitmap suffix 1, XPM suffix 2, SVG suffix 4, icon file 8
-bit freedesktop bitmap = 0
-bit freedesktop xpm = 1
-bit freedesktop svg = 2
-bit freedesktop icon_file = 3
+bit Freedesktop bitmap = 0
+bit Freedesktop xpm = 1
+bit Freedesktop svg = 2
+bit Freedesktop icon_file = 3
 -- XPM 1, SVG 2, bitmap 4, icon file 8
-bit gtk xpm = 0
-bit gtk svg = 1
-bit gtk bitmap = 2
-bit gtk icon_file = 3
+bit Gtk xpm = 0
+bit Gtk svg = 1
+bit Gtk bitmap = 2
+bit Gtk icon_file = 3
 
 -- the flag's bit in x: 1 if it is set, and else 0
 abbrev pub flag_bit : Numbering → ℕ → Flag → ℕ
@@ -45,8 +41,8 @@ renumbered n m x =
 -- the numbering that a caller names: 0 is document 01's and 1 the other; a larger number is
 -- unknown, and refused
 abbrev pub numbering : ℕ → Numbering
-numbering zero = freedesktop
-numbering (suc k) = gtk
+numbering zero = Freedesktop
+numbering (suc k) = Gtk
 
 abbrev pub known : ℕ → Bool
 known k = leb k 1

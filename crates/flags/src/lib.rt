@@ -1,8 +1,8 @@
 // The flags of an image in two numberings: into document 01's numbering, and back.
 #![tactic(auto)]
 
-ghost use Rattle.std.specs.Prelude.{◌≡◌, ◌≤◌};
-ghost use Rattle.flags.specs.Flags.{freedesktop, gtk, numbering, valid_flags, flags_in, flags_out};
+ghost use Rattle.std.specs.Prelude.{◌≡◌, ◌≤◌, true, false, SomeIff, MatchOption};
+ghost use Rattle.flags.specs.Flags.{numbering, known, valid_flags, flags_in, flags_out};
 ghost use Rattle.flags.specs.Flags as definition;
 
 // With number 0 the flags in the numbering asked for; with 27 they are 0. The place is always 0.
@@ -13,59 +13,82 @@ pub struct FlagsAnswer {
     pub flags: u16,
 }
 
-// Whether the flags are 0 to 15 and both numberings are known.
-fn valid(flags: u16, from: u32, to: u32) -> bool
-    ensures { result ≡ valid_flags flags from to }
-{
-    flags <= 15 && from <= 1 && to <= 1
+// The numberings of the flags: document 01's, which is that of the freedesktop note, and GTK's.
+#[derive(Clone, Copy)]
+enum Numbering {
+    Freedesktop,
+    Gtk,
 }
 
-// From numbering 1 to 0: XPM and SVG move up by a bit, bitmap moves below them, icon file stays.
+impl Numbering {
+    // The numbering of a number, where that is known.
+    fn new(number: u32) -> Option<Numbering>
+        ensures { SomeIff result (known number ≡ true) (numbering number) }
+    {
+        match number {
+            0 => Some(Numbering::Freedesktop),
+            1 => Some(Numbering::Gtk),
+            _ => None,
+        }
+    }
+}
+
+// From GTK's numbering to document 01's: XPM and SVG move up by a bit, bitmap moves below them,
+// icon file stays.
 fn from_gtk(flags: u16) -> u16
     requires { flags ≤ 15 }
-    ensures { result ≡ definition.renumbered gtk freedesktop flags }
+    ensures { result ≡ definition.renumbered Numbering.Gtk Numbering.Freedesktop flags }
 {
     (flags & 0b0011) << 1 | (flags & 0b0100) >> 2 | flags & 0b1000
 }
 
-// From numbering 0 to 1: XPM and SVG move down by a bit, bitmap moves above them, icon file stays.
+// From document 01's numbering to GTK's: XPM and SVG move down by a bit, bitmap moves above them,
+// icon file stays.
 fn to_gtk(flags: u16) -> u16
     requires { flags ≤ 15 }
-    ensures { result ≡ definition.renumbered freedesktop gtk flags }
+    ensures { result ≡ definition.renumbered Numbering.Freedesktop Numbering.Gtk flags }
 {
     (flags & 0b0110) >> 1 | (flags & 0b0001) << 2 | flags & 0b1000
 }
 
 // The flags of the numbering `from` in the numbering `to`.
-fn renumbered(flags: u16, from: u32, to: u32) -> u16
-    requires { (flags ≤ 15) × (from ≤ 1) × (to ≤ 1) }
-    ensures { result ≡ definition.renumbered (numbering from) (numbering to) flags }
+fn renumbered(flags: u16, from: Numbering, to: Numbering) -> u16
+    requires { flags ≤ 15 }
+    ensures { result ≡ definition.renumbered from to flags }
 {
-    if from == to {
-        flags
-    } else if from == 0 {
-        to_gtk(flags)
-    } else {
-        from_gtk(flags)
+    match (from, to) {
+        (Numbering::Freedesktop, Numbering::Gtk) => to_gtk(flags),
+        (Numbering::Gtk, Numbering::Freedesktop) => from_gtk(flags),
+        _ => flags,
     }
 }
 
-// The same for any numbers, with 27 where one is not valid.
+// The same by the numbers of numberings; none where the flags are above 15 or a numbering is
+// unknown.
+fn converted(flags: u16, from: u32, to: u32) -> Option<u16>
+    ensures { MatchOption result (valid_flags flags from to ≡ false) (λ moved. (valid_flags flags from to ≡ true) × (moved ≡ definition.renumbered (numbering from) (numbering to) flags)) }
+{
+    if 15 < flags {
+        return None;
+    }
+    Some(renumbered(flags, Numbering::new(from)?, Numbering::new(to)?))
+}
+
+// The same as an answer, which is 27 where there is none.
 fn answer(flags: u16, from: u32, to: u32) -> FlagsAnswer
     ensures { result ≡ definition.answer flags from to }
 {
-    if valid(flags, from, to) {
-        FlagsAnswer {
+    match converted(flags, from, to) {
+        Some(flags) => FlagsAnswer {
             number: 0,
             place: 0,
-            flags: renumbered(flags, from, to),
-        }
-    } else {
-        FlagsAnswer {
+            flags,
+        },
+        None => FlagsAnswer {
             number: 27,
             place: 0,
             flags: 0,
-        }
+        },
     }
 }
 
