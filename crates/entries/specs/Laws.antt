@@ -1,6 +1,6 @@
 -- What the judgement of a path and of an icon is by what is judged first, and how things in a row
 -- are judged one after the other.
-use Rattle.std.specs.Prelude.{ℕ, zero, suc, ◌+◌, ◌≤◌, ◌<◌, ◌≡◌, refl, List, true, false, get_or}
+use Rattle.std.specs.Prelude.{ℕ, zero, suc, ◌+◌, ◌-◌, ◌≤◌, ◌<◌, ◌≡◌, refl, List, true, false, get_or, Ok, Err}
 use Rattle.std.proofs.Common.{sym, ◌∙◌, add-zero, zero-add, arith}
 use Rattle.std.proofs.Math.Path.{ap}
 use Rattle.std.proofs.Math.Bool.{and-eq-true_iff}
@@ -9,27 +9,20 @@ use borrow.Author.Tests.{leb-true}
 use Rattle.std.proofs.Math.ListN.{length}
 use Rattle.format.specs.Number.{be}
 use Rattle.format.specs.Layout.{image_size}
-use Rattle.format.specs.Fault.{fault, no_fault, unless, ◌or_else◌, first_fault}
+use Rattle.format.specs.Fault.{fault, no_fault, unless, ◌or_else◌, first_fault, outcome}
 use Rattle.format.specs.declared.Fault.{Fault}
-use Rattle.format.proofs.Laws.Faults.{kept-takes, broken-takes, first-end, first-stop, first-go-on, or_else-none, unless-none, unless-broken, broken-speaks, kept-passes}
+use Rattle.format.proofs.Laws.Outcomes.{outcome-kept, outcome-broken, kept-by, broken-by}
+use Rattle.format.proofs.Laws.Faults.{same_number, first-end, first-stop, first-go-on, or_else-none, unless-none, unless-broken, broken-speaks, kept-passes}
 use Rattle.catalogue.specs.Row.{row_end}
 use Rattle.catalogue.specs.Fields.{path_end, image_end, image_count, image_count_at, first_image_at, icon_end}
 use Rattle.catalogue.specs.Judgement.{valid_path_length, valid_path_text, valid_image_field, valid_name_length, valid_name_text, valid_image_count, path_fields_fault, image_field_fault, icon_fields_fault}
 use Rattle.catalogue.proofs.Laws.Rows.{end-steps}
-use Rattle.entries.specs.Judged.{judged, row_judged}
-use Rattle.entries.specs.declared.Judged.{Judged}
+use Rattle.entries.specs.Judged.{row_judged}
 
 -- a number of one byte is that byte
 pub one_byte : (s : List ℕ) (p : ℕ) → be 1 s p ≡ get_or s p 0
 unfolding be
 one_byte s p = simp (add-zero, zero-add)
-
--- an answer by what is judged: a field is refused, or all are kept
-pub refuses : (e : ℕ) {v : Fault} {p : ℕ} {a : Judged} → v ≡ fault 18 p → a ≡ judged (fault 18 p) 0 → a ≡ judged v e
-refuses e q told = told ∙ rw q
-
-pub keeps : {v : Fault} {e : ℕ} {a : Judged} → v ≡ no_fault → a ≡ judged no_fault e → a ≡ judged v e
-keeps q told = told ∙ rw q
 
 module _ (c : List ℕ) (p : ℕ) where
   pub length-refused : valid_path_length c p ≡ false → path_fields_fault c p ≡ fault 18 p
@@ -58,6 +51,11 @@ pub row_inside : (judge : ℕ → Fault) (next : ℕ → ℕ) {most : ℕ} → (
 unfolding first_fault row_end
 row_inside judge next each zero p h none = h
 row_inside judge next each (suc n) p h none = let (first, rest) = or_else-none _ _ none in row_inside judge next each n (next p) (each p first) rest
+
+row-next : (judge : ℕ → Fault) (next : ℕ → ℕ) (n m p : ℕ) → n ≡ m + 1 → (judge p).number ≡ 0
+    → row_judged judge next m (next p) ≡ row_judged judge next n p
+unfolding row_end
+row-next judge next n m p more kept = rw (first-go-on judge next p n m more kept, more, add-one m)
 
 -- an icon of a catalogue with n directories
 module _ (n : ℕ) (c : List ℕ) (p : ℕ) where
@@ -89,11 +87,11 @@ module _ (n : ℕ) (c : List ℕ) (p : ℕ) where
         count-inside = leb-true _ _ ((and-eq-true_iff _ _).0 m).0
 
         -- its images decide
-        pub images-decide : judged (icon_fields_fault n c p) (icon_end c p) ≡ row_judged (image_field_fault n c) image_end (image_count c p) (first_image_at c p)
+        pub images-decide : outcome (icon_fields_fault n c p) (icon_end c p) ≡ row_judged (image_field_fault n c) image_end (image_count c p) (first_image_at c p)
         unfolding icon_fields_fault
         images-decide =
-            ap (λ v. judged v (icon_end c p)) (named _ ∙ kept-passes (valid_image_count c p) 18 (image_count_at c p) _ m)
-            ∙ ap (judged (first_fault (image_field_fault n c) image_end (image_count c p) (first_image_at c p))) (sym (end-steps image_size (image_count c p) (first_image_at c p)))
+            ap (λ v. outcome v (icon_end c p)) (named _ ∙ kept-passes (valid_image_count c p) 18 (image_count_at c p) _ m)
+            ∙ ap (outcome (first_fault (image_field_fault n c) image_end (image_count c p) (first_image_at c p))) (sym (end-steps image_size (image_count c p) (first_image_at c p)))
 
   image-inside : (q : ℕ) → (image_field_fault n c q).number ≡ 0 → image_end q ≤ length c
   image-inside q kept = leb-true _ _ ((and-eq-true_iff _ _).0 (unless-none (valid_image_field n c q) 17 q kept)).0
@@ -105,35 +103,26 @@ module _ (n : ℕ) (c : List ℕ) (p : ℕ) where
       let first : first_image_at c p ≤ length c = leb-true _ _ ((and-eq-true_iff _ _).0 (unless-none (valid_image_count c p) 17 _ counted.0)).0 in
       rw (← (end-steps image_size (image_count c p) (first_image_at c p))) (row_inside (image_field_fault n c) image_end image-inside (image_count c p) (first_image_at c p) first counted.1)
 
--- n things in a row from p on: none is left, the first is refused, or it is kept and the rest decides
-module _ (judge : ℕ → Fault) (next : ℕ → ℕ) (n p : ℕ) {a : Judged} where
-  pub judged-done : n ≡ 0 → a ≡ judged no_fault p → a ≡ row_judged judge next n p
+-- where one that is kept ends
+pub kept-inside : (v : Fault) (e : ℕ) {q most : ℕ} → Ok q ≡ outcome v e → (v.number ≡ 0 → e ≤ most) → q ≤ most
+kept-inside v e {q} told h = let (kept, is) = kept-by v e q told in rw is (h kept)
+
+-- n things in a row, and p is where the one behind the first i begins: none is left, that one is
+-- refused, or it is kept and the rest decides
+module _ (judge : ℕ → Fault) (next : ℕ → ℕ) (p : ℕ) {n i : ℕ} where
+  pub row-done : n ≤ i → Ok p ≡ row_judged judge next (n - i) p
   unfolding row_end
-  judged-done none told = told ∙ rw (none, first-end judge next p 0 refl)
+  row-done l =
+      let none : n - i ≡ 0 = omega arith in
+      rw none (sym (outcome-kept (first_fault judge next 0 p) p (same_number (first-end judge next p 0 refl))))
 
-  module _ (e : ℕ) (some : 0 < n) (told : a ≡ judged (judge p) e) where
-    pub judged-stops : (a.fault.number ≡ 0 → ⊥) → a ≡ row_judged judge next n p
-    judged-stops broken =
-        let number : a.fault.number ≡ (judge p).number = ap (λ (b : Judged). b.fault.number) told in
-        let other : (judge p).number ≡ 0 → ⊥ = λ z. broken (number ∙ z) in
-        told ∙ rw (first-stop judge next p n some other, broken-takes (judge p) e 0 other, broken-takes (judge p) (row_end next n p) 0 other)
+  module _ (l : i < n) where
+    pub row-stops : (e : ℕ) {f : Fault} → Err f ≡ outcome (judge p) e → Err f ≡ row_judged judge next (n - i) p
+    row-stops e {f} told =
+        let (broken, is) = broken-by (judge p) e f told in
+        rw (is, first-stop judge next p (n - i) (omega arith) broken) (sym (outcome-broken (judge p) (row_end next (n - i) p) broken))
 
-  -- where all are kept, they end there
-  pub judged-end : a ≡ row_judged judge next n p → a.fault.number ≡ 0 → a.end ≡ row_end next n p
-  judged-end told kept =
-      ap (λ (b : Judged). b.end) told
-      ∙ kept-takes (first_fault judge next n p) (row_end next n p) 0 (sym (ap (λ (b : Judged). b.fault.number) told) ∙ kept)
-
-  module _ (told : a ≡ judged (judge p) (next p)) (kept : a.fault.number ≡ 0) where
-    number : (judge p).number ≡ 0
-    number = sym (ap (λ (b : Judged). b.fault.number) told) ∙ kept
-
-    end : a.end ≡ next p
-    end = ap (λ (b : Judged). b.end) told ∙ kept-takes (judge p) (next p) 0 number
-
-    pub judged-inside : {most : ℕ} → ((judge p).number ≡ 0 → next p ≤ most) → a.end ≤ most
-    judged-inside h = rw end (h number)
-
-    pub judged-goes-on : (m : ℕ) → n ≡ m + 1 → row_judged judge next m a.end ≡ row_judged judge next n p
-    unfolding row_end
-    judged-goes-on m more = rw (end, first-go-on judge next p n m more number, more, add-one m)
+    pub row-goes-on : {q : ℕ} → Ok q ≡ outcome (judge p) (next p) → row_judged judge next (n - (i + 1)) q ≡ row_judged judge next (n - i) p
+    row-goes-on {q} told =
+        let (kept, is) = kept-by (judge p) (next p) q told in
+        rw is (row-next judge next (n - i) (n - (i + 1)) p (omega arith) kept)

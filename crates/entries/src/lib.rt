@@ -5,40 +5,14 @@
 ghost use Rattle.std.specs.Prelude.{◌≡◌, ◌&&◌, ◌+◌, ◌≤◌, ◌<◌, length, leb};
 ghost use Rattle.format.specs.Number.{be};
 ghost use Rattle.format.specs.Part.{inside};
-ghost use Rattle.format.specs.Fault.{fault};
+ghost use Rattle.format.specs.Fault.{outcome};
 ghost use Rattle.format.specs.Record.{valid_index};
 ghost use Rattle.catalogue.specs.Fields.{path_end, image_end, icon_end};
 ghost use Rattle.catalogue.specs.Judgement.{valid_path_length, valid_path_text, valid_image_field, valid_name_length, valid_name_text, path_fields_fault, image_field_fault, icon_fields_fault};
-ghost use Rattle.entries.specs.Judged.{judged, row_judged};
+ghost use Rattle.entries.specs.Judged.{row_judged};
 
 use bigendian::{byte, u16_at};
 use format::Fault;
-
-// What is judged of fields, and where they end if they keep the rules; else 0.
-#[derive(Clone, Copy)]
-pub struct Judged {
-    pub fault: Fault,
-    pub end: usize,
-}
-
-// A field that is refused.
-fn refused(place: usize) -> Judged
-    ensures { result ≡ judged (fault 18 place) 0 }
-{
-    let fault = Fault { number: 18, place };
-    Judged { fault, end: 0 }
-}
-
-// Fields that keep the rules, up to `end`.
-pub fn kept(end: usize) -> Judged
-    ensures { result ≡ judged (fault 0 0) end }
-{
-    let fault = Fault {
-        number: 0,
-        place: 0,
-    };
-    Judged { fault, end }
-}
 
 // Whether the length of the path at `at` is there, and is 1 to 1,023.
 fn valid_path_length(catalogue: &[u8], at: usize) -> bool
@@ -66,19 +40,25 @@ fn valid_path_text(catalogue: &[u8], at: usize) -> bool
     paths::allowed_path(&catalogue[text..end])
 }
 
-// The path at `at`: its length, then its text.
-pub fn path(catalogue: &[u8], at: usize) -> Judged
+// The path at `at`: its length, then its text. Where it ends.
+pub fn path(catalogue: &[u8], at: usize) -> Result<usize, Fault>
     requires { at ≤ length catalogue.now }
-    ensures { result ≡ judged (path_fields_fault catalogue.now at) (path_end catalogue.now at) }
+    ensures { result ≡ outcome (path_fields_fault catalogue.now at) (path_end catalogue.now at) }
 {
     if !valid_path_length(catalogue, at) {
-        return refused(at);
+        return Err(Fault {
+            number: 18,
+            place: at,
+        });
     }
     let text = at + 2;
     if !valid_path_text(catalogue, at) {
-        return refused(text);
+        return Err(Fault {
+            number: 18,
+            place: text,
+        });
     }
-    kept(text + u16_at(catalogue, at) as usize)
+    Ok(text + u16_at(catalogue, at) as usize)
 }
 
 // Whether the index of a directory is valid where there are `n`.
@@ -101,21 +81,18 @@ fn valid_image(catalogue: &[u8], n: usize, at: usize) -> bool
     valid_index(n, index) && flags <= 15
 }
 
-// `m` images from `at` on, in a catalogue with `n` directories.
-fn images(catalogue: &[u8], n: usize, m: usize, at: usize) -> Judged
+// `m` images from `at` on, in a catalogue with `n` directories: where they end.
+fn images(catalogue: &[u8], n: usize, m: usize, at: usize) -> Result<usize, Fault>
     requires { at ≤ length catalogue.now }
     ensures { result ≡ row_judged (image_field_fault n catalogue.now) image_end m at }
 {
-    let mut left = m;
-    let mut here = at;
-    while 0 < left {
-        if !valid_image(catalogue, n, here) {
-            return refused(here);
+    for i in 0..m {
+        let place = at + 8 * i;
+        if !valid_image(catalogue, n, place) {
+            return Err(Fault { number: 18, place });
         }
-        here += 8;
-        left -= 1;
     }
-    kept(here)
+    Ok(at + 8 * m)
 }
 
 // Whether the length of the name of the icon at `at` is there, and is not 0.
@@ -156,21 +133,30 @@ fn valid_image_count(catalogue: &[u8], at: usize) -> bool
 }
 
 // The icon at `at`, in a catalogue with `n` directories: the length of its name, its name, the
-// count of its images, and these.
-pub fn icon(catalogue: &[u8], n: usize, at: usize) -> Judged
+// count of its images, and these. Where it ends.
+pub fn icon(catalogue: &[u8], n: usize, at: usize) -> Result<usize, Fault>
     requires { at ≤ length catalogue.now }
-    ensures { result ≡ judged (icon_fields_fault n catalogue.now at) (icon_end catalogue.now at) }
+    ensures { result ≡ outcome (icon_fields_fault n catalogue.now at) (icon_end catalogue.now at) }
 {
     if !valid_name_length(catalogue, at) {
-        return refused(at);
+        return Err(Fault {
+            number: 18,
+            place: at,
+        });
     }
     let text = at + 1;
     if !valid_name_text(catalogue, at) {
-        return refused(text);
+        return Err(Fault {
+            number: 18,
+            place: text,
+        });
     }
     let count = text + byte(catalogue, at) as usize;
     if !valid_image_count(catalogue, count) {
-        return refused(count);
+        return Err(Fault {
+            number: 18,
+            place: count,
+        });
     }
     let m = u16_at(catalogue, count) as usize;
     images(catalogue, n, m, count + 2)
