@@ -1,8 +1,8 @@
 -- What the functions that judge a catalogue hand to one another.
-use Rattle.std.specs.Prelude.{ℕ, suc, ◌+◌, ◌^◌, ◌≤◌, ◌<◌, ◌≡◌, List, length, leb}
+use Rattle.std.specs.Prelude.{ℕ, suc, ◌+◌, ◌^◌, ◌≤◌, ◌<◌, List, length, leb, Result}
 use Rattle.format.specs.Number.{be}
 use Rattle.format.specs.Part.{inside}
-use Rattle.format.specs.Fault.{unless, ◌or_else◌, first_fault}
+use Rattle.format.specs.Fault.{unless, ◌or_else◌, first_fault, outcome}
 use Rattle.format.specs.declared.Fault.{Fault}
 use Rattle.catalogue.specs.Row.{row_end, row}
 use Rattle.catalogue.specs.Fields.{icon_end}
@@ -18,13 +18,13 @@ icons_fault c n p =
     or_else first_fault (icon_fields_fault n c) (icon_end c) (be 2 c p) (p + 2)
     or_else unless (leb (length c) end) 18 end
 
--- the answer v, and where it names no broken rule the parts of a catalogue with n directories whose
--- icons are counted at p
-pub record Parted (c : List ℕ) (v : Fault) (n p : ℕ) (a : Parts) : Type 0 where
-  pub fault : a.fault ≡ v
-  pub paths : v.number ≡ 0 → a.paths ≡ n
-  pub icons : v.number ≡ 0 → a.icons ≡ be 2 c p
-  pub first : v.number ≡ 0 → a.first_icon ≡ p + 2
+-- where the parts of a catalogue with n directories stand whose icons are counted at p
+abbrev pub parts_at : List ℕ → ℕ → ℕ → Parts
+parts_at c n p = record { paths = n; icons = be 2 c p; first_icon = p + 2 }
+
+-- the broken rule that v names, and where it names none these parts
+abbrev pub parted : List ℕ → Fault → ℕ → ℕ → Result Parts Fault
+parted c v n p = outcome v (parts_at c n p)
 
 -- the first of m names from p on that is one of those before, or used before among them
 abbrev pub repeat_from : List (List ℕ) → List ℕ → ℕ → ℕ → Fault

@@ -1,7 +1,7 @@
 -- How far the icons of a catalogue reach that is judged good: each lies inside, and a word can hold
 -- its offset.
 use Prim.Native.Nat.{ℕ, zero, suc, ◌+◌, ◌*◌, ◌^◌, ◌≤◌, ◌<◌}
-use Rattle.std.specs.Prelude.{◌≡◌, List, ◌&&◌, ltb}
+use Rattle.std.specs.Prelude.{◌≡◌, List, ◌&&◌, ltb, Ok}
 use Rattle.std.proofs.Math.Path.{refl}
 use Rattle.std.proofs.Math.Bool.{and-eq-true_iff}
 use Rattle.std.proofs.Math.Nat.{mul-zero, mul-suc}
@@ -11,14 +11,14 @@ use Rattle.std.proofs.Math.ListN.{length}
 use Rattle.format.specs.Fault.{first_fault}
 use Rattle.format.specs.Part.{inside}
 use Rattle.format.specs.declared.Fault.{Fault}
+use Rattle.format.proofs.Laws.Outcomes.{kept-by}
 use Rattle.format.proofs.Laws.Faults.{or_else-next, or_else-none, unless-none}
 use Rattle.catalogue.specs.Row.{row_end}
 use Rattle.catalogue.specs.Fields.{AreBytes, path_length, path_end, name_length, image_count_at, image_count, icon_end, path_count, icon_count_at, icon_count, first_icon_at, catalogue_end}
 use Rattle.catalogue.specs.Judgement.{valid_path_length, valid_name_length, valid_image_count, path_fields_fault, icon_fields_fault, fields_fault}
 use Rattle.catalogue.proofs.Laws.Spans.{number_fits}
-use Rattle.judging.specs.Judging.{Listed, Parted}
+use Rattle.judging.specs.Judging.{Listed, parts_at, parted}
 use Rattle.entries.specs.Laws.{icon-inside, row_inside}
-use Rattle.judging.specs.Laws.Sections.{fields-kept}
 use Rattle.judging.specs.declared.Parts.{Parts}
 
 module _ (judge : ℕ → Fault) (next : ℕ → ℕ) where
@@ -77,18 +77,16 @@ module _ (c : List ℕ) (small : AreBytes c) where
       }
 
   -- as the parts of the catalogue that were read
-  module _ {a : Parts} (told : Parted c (fields_fault c) (path_count c) (icon_count_at c) a) (kept : a.fault.number ≡ 0) where
+  module _ {a : Parts} (told : Ok a ≡ parted c (fields_fault c) (path_count c) (icon_count_at c)) where
     pub parts-listed : Listed c a.icons a.first_icon
-    parts-listed =
-        let good = fields-kept told kept in
-        rw (told.icons good, told.first good) (icons-listed good)
+    parts-listed = let (good, is) = kept-by (fields_fault c) (parts_at c (path_count c) (icon_count_at c)) a told in rw is (icons-listed good)
 
     pub parts-few : a.icons < 65536
     unfolding fields_fault
     parts-few =
-        let good = fields-kept told kept in
+        let (good, is) = kept-by (fields_fault c) (parts_at c (path_count c) (icon_count_at c)) a told in
         let third = or_else-none _ _ (or_else-none _ _ (or_else-none _ _ good).1).1 in
-        omega (arith, told.icons good, number_fits c small 2 (icon_count_at c) (leb-true _ _ (unless-none _ _ _ third.0)))
+        rw is (number_fits c small 2 (icon_count_at c) (leb-true _ _ (unless-none _ _ _ third.0)))
 
   -- a good catalogue is not longer than its most icons and paths make it
   pub catalogue-short : (fields_fault c).number ≡ 0 → length c < 2 ^ 30

@@ -1,28 +1,20 @@
 -- What the judgement of a whole catalogue is by what is judged first, section by section.
-use Rattle.std.specs.Prelude.{ℕ, ◌+◌, ◌≤◌, ◌<◌, ◌≡◌, length}
+use Rattle.std.specs.Prelude.{ℕ, ◌+◌, ◌≤◌, ◌<◌, ◌≡◌, length, Ok, Err}
 use Rattle.std.proofs.Math.Path.{sym}
 use Rattle.std.proofs.Common.{◌∙◌, le-leb}
 use mathlib.Core.List.{List, []}
 use Rattle.std.proofs.lemmas.Bool.{lt-leb}
 use Rattle.format.specs.Number.{be}
-use Rattle.format.specs.Fault.{fault, no_fault, first_fault}
+use Rattle.format.specs.Fault.{fault, no_fault, first_fault, verdict}
 use Rattle.format.specs.declared.Fault.{Fault}
-use Rattle.format.proofs.Laws.Faults.{same_number, or_else-first, or_else-next, unless-broken, broken-speaks, kept-passes}
+use Rattle.format.proofs.Laws.Outcomes.{outcome-kept, outcome-broken, kept-by, broken-by}
+use Rattle.format.proofs.Laws.Faults.{or_else-first, or_else-next, unless-broken, broken-speaks, kept-passes}
 use Rattle.catalogue.specs.Row.{row_end}
 use Rattle.catalogue.specs.Fields.{path_end, icon_end, path_count, icon_count_at}
 use Rattle.catalogue.specs.Judgement.{path_fields_fault, icon_fields_fault, fields_fault}
 use Rattle.catalogue.specs.Repeats.{repeat_fault, icon_uses, catalogue_fault}
-use Rattle.judging.specs.Judging.{icons_fault, Parted}
+use Rattle.judging.specs.Judging.{icons_fault, parts_at, parted, repeat_from}
 use Rattle.judging.specs.declared.Parts.{Parts}
-
--- an answer that refuses
-pub parted-broken : {c : List ℕ} {v : Fault} {n p : ℕ} {a : Parts} → a.fault ≡ v → (v.number ≡ 0 → ⊥) → Parted c v n p a
-parted-broken e broken = record {
-  fault = e;
-  paths = λ z. absurd (broken z);
-  icons = λ z. absurd (broken z);
-  first = λ z. absurd (broken z);
-}
 
 -- the icons, counted at p: the count is cut off, or they decide, or what follows them
 module _ (c : List ℕ) (n p : ℕ) where
@@ -63,29 +55,34 @@ module _ (c : List ℕ) where
     unfolding fields_fault
     paths-refused broken = kept-passes _ 18 0 _ (le-leb _ _ there) ∙ or_else-first _ _ broken
 
-    pub icons-decide : paths.number ≡ 0 → {n p : ℕ} {a : Parts} → n ≡ path_count c → p ≡ icon_count_at c → Parted c (icons_fault c n p) n p a
-        → Parted c (fields_fault c) (path_count c) (icon_count_at c) a
+    pub icons-decide : paths.number ≡ 0 → fields_fault c ≡ icons_fault c (path_count c) (icon_count_at c)
     unfolding fields_fault icons_fault
-    icons-decide kept n-is p-is told =
-        let whole : fields_fault c ≡ icons_fault c (path_count c) (icon_count_at c) = kept-passes _ 18 0 _ (le-leb _ _ there) ∙ or_else-next _ _ kept in
-        rw whole (rw (n-is, p-is) at told)
+    icons-decide kept = kept-passes _ 18 0 _ (le-leb _ _ there) ∙ or_else-next _ _ kept
 
 -- all that is judged: the fields decide, or the names
-module _ {c : List ℕ} {n p : ℕ} {a : Parts} (told : Parted c (fields_fault c) n p a) where
-  pub fields-refused : (a.fault.number ≡ 0 → ⊥) → Parted c (catalogue_fault c) n p a
+module _ (c : List ℕ) where
+  pub fields-refused : ((fields_fault c).number ≡ 0 → ⊥) → catalogue_fault c ≡ fields_fault c
   unfolding catalogue_fault
-  fields-refused broken = rw (or_else-first (fields_fault c) (repeat_fault [] (icon_uses c)) (λ z. broken (same_number told.fault ∙ z))) told
+  fields-refused broken = or_else-first (fields_fault c) (repeat_fault [] (icon_uses c)) broken
 
-  module _ (kept : a.fault.number ≡ 0) where
-    pub fields-kept : (fields_fault c).number ≡ 0
-    fields-kept = sym (same_number told.fault) ∙ kept
+  pub names-decide : (fields_fault c).number ≡ 0 → catalogue_fault c ≡ repeat_fault [] (icon_uses c)
+  unfolding catalogue_fault
+  names-decide kept = or_else-next (fields_fault c) (repeat_fault [] (icon_uses c)) kept
 
-    pub names-decide : {v : Fault} → v ≡ repeat_fault [] (icon_uses c)
-        → Parted c (catalogue_fault c) n p (record { fault = v; paths = a.paths; icons = a.icons; first_icon = a.first_icon })
-    unfolding catalogue_fault
-    names-decide e = record {
-      fault = e ∙ sym (or_else-next (fields_fault c) (repeat_fault [] (icon_uses c)) fields-kept);
-      paths = λ z. told.paths fields-kept;
-      icons = λ z. told.icons fields-kept;
-      first = λ z. told.first fields-kept;
-    }
+  -- the parts of good fields, and what is judged of their names
+  module _ {a : Parts} (told : Ok a ≡ parted c (fields_fault c) (path_count c) (icon_count_at c)) where
+    parts-are : ((fields_fault c).number ≡ 0) × (a ≡ parts_at c (path_count c) (icon_count_at c))
+    parts-are = kept-by (fields_fault c) (parts_at c (path_count c) (icon_count_at c)) a told
+
+    names-are : repeat_from [] c a.icons a.first_icon ≡ catalogue_fault c
+    names-are = let (good, is) = parts-are in rw (is, names-decide good)
+
+    pub names-refused : {f : Fault} → Err f ≡ verdict (repeat_from [] c a.icons a.first_icon) → Err f ≡ parted c (catalogue_fault c) (path_count c) (icon_count_at c)
+    names-refused {f} e =
+        let (broken, is) = broken-by (catalogue_fault c) tt f (rw names-are at e) in
+        rw is (sym (outcome-broken (catalogue_fault c) (parts_at c (path_count c) (icon_count_at c)) broken))
+
+    pub names-kept : Ok tt ≡ verdict (repeat_from [] c a.icons a.first_icon) → Ok a ≡ parted c (catalogue_fault c) (path_count c) (icon_count_at c)
+    names-kept e =
+        let kept = (kept-by (catalogue_fault c) tt tt (rw names-are at e)).0 in
+        rw parts-are.1 (sym (outcome-kept (catalogue_fault c) (parts_at c (path_count c) (icon_count_at c)) kept))
