@@ -67,17 +67,15 @@ fn byte_by_byte(part: &[u8], passed: usize, mut hash: u32) -> u64
     requires { Reached part.now passed hash × (length part.now < 2 ^ 32) }
     ensures { result ≡ length (string part.now) * 2 ^ 32 + definition.hash (string part.now) }
 {
-    let mut i = passed;
-    while i < part.len() {
+    for i in passed..part.len() {
         let byte = part[i];
         if byte == 0 {
             return both(i, hash);
         }
         // h = (h << 5) - h + *p
         hash = wrapping_add_u32(times31(hash), signed(byte));
-        i += 1;
     }
-    both(i, hash)
+    both(part.len(), hash)
 }
 
 // The length of the string at the front of `part` times 2^32, plus its hash. What `hash_words` makes
@@ -87,15 +85,15 @@ pub fn measured(part: &[u8]) -> u64
     ensures { result ≡ length (string part.now) * 2 ^ 32 + definition.hash (string part.now) }
 {
     let mut hash = 0;
-    let mut i = 0;
-    while i + 8 <= part.len() {
+    let words = part.len() / 8;
+    for k in 0..words {
+        let i = 8 * k;
         let word = u64_at(part, i);
         let n = first_zero(word);
         if n < 8 {
             return both(i + n, hash_words::some(hash, word, n as u64));
         }
         hash = hash_words::eight(hash, word);
-        i += 8;
     }
-    byte_by_byte(part, i, hash)
+    byte_by_byte(part, 8 * words, hash)
 }
