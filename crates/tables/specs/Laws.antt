@@ -1,18 +1,20 @@
 -- What the tables of a cache tell: their counts and fields are those of the definitions, and a path
 -- that keeps the rules lies inside.
-use Rattle.std.specs.Prelude.{ℕ, ◌+◌, ◌≤◌, ◌<◌, ◌≡◌, List, ◌++◌, length, take, drop}
+use Rattle.std.specs.Prelude.{ℕ, ◌+◌, ◌≤◌, ◌<◌, ◌≡◌, List, ◌++◌, length, take, drop, Ok}
 use Rattle.std.proofs.Common.{ap, ◌∙◌, arith}
 use Rattle.format.specs.Number.{be}
 use Rattle.format.specs.Bytes.{bytes}
+use Rattle.format.specs.Fault.{outcome}
 use Rattle.format.specs.Header.{buckets, bucket_field, directories, path_field, path_part, path_of, path_fault}
-use Rattle.format.proofs.Laws.Faults.{or_else-none, kept-takes}
+use Rattle.format.proofs.Laws.Faults.{or_else-none}
+use Rattle.format.proofs.Laws.Outcomes.{kept-by}
 use Rattle.format.proofs.Laws.Extents.{string-whole}
 use Rattle.format.proofs.Laws.Strings.{whole-string, string-front}
 use Rattle.format.proofs.Laws.Texts.{whole-inside}
 use Rattle.format.proofs.Laws.Header.{ValidHeader, header-valid}
-use Rattle.tables.specs.Tables.{TablesOf, bucket_field_of, path_judged}
+use Rattle.tables.specs.Tables.{TablesOf, bucket_field_of, part_of}
 use Rattle.tables.specs.declared.Tables.{Tables}
-use Rattle.tables.specs.declared.JudgedPath.{JudgedPath}
+use Rattle.tables.specs.declared.PathPart.{PathPart}
 
 module _ {s : List ℕ} {t : Tables} (r : TablesOf s t) where
   pub valid-header : ValidHeader s
@@ -42,13 +44,16 @@ path_inside s i e =
     let whole = string-whole _ _ _ (or_else-none _ _ e).0 in
     record { kept = e; inside = whole-inside 1023 s (be 4 s (path_field s i)) whole; short = (whole-string 1023 (path_part s i) whole).within }
 
--- what is read of it
-module _ {s : List ℕ} {i : ℕ} {p : JudgedPath} (read : p ≡ path_judged s i) (h : PathInside s i) where
+-- what is read of one that keeps the rules
+module _ {s : List ℕ} {i : ℕ} {p : PathPart} (read : Ok p ≡ outcome (path_fault s i) (part_of s i)) (h : PathInside s i) where
+  path-part : p ≡ part_of s i
+  path-part = (kept-by (path_fault s i) (part_of s i) p read).1
+
   pub path-start : p.start ≡ be 4 s (path_field s i)
-  path-start = ap (λ (p : JudgedPath). p.start) read ∙ kept-takes (path_fault s i) _ _ h.kept
+  path-start = ap (λ (p : PathPart). p.start) path-part
 
   pub path-size : p.length ≡ length (path_of s i)
-  path-size = ap (λ (p : JudgedPath). p.length) read ∙ kept-takes (path_fault s i) _ _ h.kept
+  path-size = ap (λ (p : PathPart). p.length) path-part
 
   pub path-text : take p.length (drop p.start s) ≡ path_of s i
   path-text = rw (path-size, path-start) (string-front (path_part s i))

@@ -4,12 +4,11 @@ use Rattle.std.specs.Prelude.{ℕ, ◌≡◌, List, length, if◌then◌else◌}
 use Rattle.format.specs.Layout.{field_size, entry_field}
 use Rattle.format.specs.Number.{be}
 use Rattle.format.specs.Part.{list_inside}
-use Rattle.format.specs.Fault.{fault, if_kept}
-use Rattle.format.specs.Header.{header_fault, buckets_at, buckets, directories_at, directories, path_field, path_of, path_fault}
+use Rattle.format.specs.Header.{header_fault, buckets_at, buckets, directories_at, directories, path_field, path_of}
 use Rattle.format.specs.Words.{Accepted}
 use Rattle.format.specs.declared.Reading.TheVariants.{Short}
 use Rattle.tables.specs.declared.Tables.{Tables}
-use Rattle.tables.specs.declared.JudgedPath.{JudgedPath}
+use Rattle.tables.specs.declared.PathPart.{PathPart}
 
 -- the count of the list whose offset stands at f, or another number where the list does not lie
 -- inside
@@ -36,14 +35,6 @@ bucket_field_of t k = entry_field t.buckets_at k
 abbrev pub path_field_of : Tables → ℕ → ℕ
 path_field_of t i = entry_field t.directories_at i
 
--- what is judged of the path of directory i, and where it stands if it keeps the rules
-abbrev pub path_judged : List ℕ → ℕ → JudgedPath
-path_judged s i = record {
-  fault = path_fault s i;
-  start = if_kept (path_fault s i) (be 4 s (path_field s i)) 0;
-  length = if_kept (path_fault s i) (length (path_of s i)) 0;
-}
-
--- a path that breaks rule x, named at p
-abbrev pub path_broken : ℕ → ℕ → JudgedPath
-path_broken x p = record { fault = fault x p; start = 0; length = 0 }
+-- where the path of directory i stands, and how many bytes it has
+abbrev pub part_of : List ℕ → ℕ → PathPart
+part_of s i = record { start = be 4 s (path_field s i); length = length (path_of s i) }

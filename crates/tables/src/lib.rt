@@ -2,12 +2,13 @@
 #![tactic(auto)]
 
 ghost use Rattle.std.specs.Prelude.{◌≡◌, ◌+◌, ◌^◌, ◌≤◌, ◌<◌, length};
+ghost use Rattle.format.specs.Fault.{outcome, verdict};
 ghost use Rattle.format.specs.Part.{list_inside};
-ghost use Rattle.format.specs.Header.{valid_version, header_fault, directories, paths_fault};
-ghost use Rattle.tables.specs.Tables.{list_count, TablesOf, bucket_field_of, path_field_of, path_broken, path_judged};
+ghost use Rattle.format.specs.Header.{valid_version, header_fault, directories, path_fault, paths_fault};
+ghost use Rattle.tables.specs.Tables.{list_count, TablesOf, bucket_field_of, path_field_of, part_of};
 
 use bigendian::{u16_at, u32_at};
-use format::{Extent, Fault};
+use format::Fault;
 
 // Where the hash and the directory list of a cache stand, and how many entries they have.
 #[derive(Clone, Copy)]
@@ -18,11 +19,9 @@ pub struct Tables {
     pub directories: u32,
 }
 
-// What is judged of a path, and where it stands if it keeps the rules; else its start and its
-// length are 0.
+// Where a path that keeps the rules stands, and how many bytes it has.
 #[derive(Clone, Copy)]
-pub struct JudgedPath {
-    pub fault: Fault,
+pub struct PathPart {
     pub start: usize,
     pub length: usize,
 }
@@ -44,11 +43,7 @@ fn valid_version(cache: &[u8]) -> bool
     requires { 12 ≤ length cache.now }
     ensures { result ≡ valid_version cache.now }
 {
-    if u16_at(cache, 0) == 1 {
-        u16_at(cache, 2) == 0
-    } else {
-        false
-    }
+    u16_at(cache, 0) == 1 && u16_at(cache, 2) == 0
 }
 
 // The count of the list whose offset stands at `field`, or `other` where the list doesn't lie
@@ -65,44 +60,41 @@ fn list_count(cache: &[u8], field: usize, other: u32) -> u32
     }
 }
 
-// The first of the rules 1 to 5 that `cache` breaks.
-pub fn header(cache: &[u8]) -> Fault
-    ensures { result ≡ header_fault cache.now }
+// The first of the rules 1 to 5 that `cache` breaks, if there is one.
+pub fn header(cache: &[u8]) -> Result<(), Fault>
+    ensures { result ≡ verdict (header_fault cache.now) }
 {
     if cache.len() < 12 {
-        return Fault {
+        return Err(Fault {
             number: 1,
             place: 0,
-        };
+        });
     }
     if 16777216 < cache.len() {
-        return Fault {
+        return Err(Fault {
             number: 2,
             place: 0,
-        };
+        });
     }
     if !valid_version(cache) {
-        return Fault {
+        return Err(Fault {
             number: 3,
             place: 0,
-        };
+        });
     }
     if 65535 < list_count(cache, 8, 65536) {
-        return Fault {
+        return Err(Fault {
             number: 4,
             place: 8,
-        };
+        });
     }
     if list_count(cache, 4, 0) == 0 {
-        return Fault {
+        return Err(Fault {
             number: 5,
             place: 4,
-        };
+        });
     }
-    Fault {
-        number: 0,
-        place: 0,
-    }
+    Ok(())
 }
 
 // The tables of a cache whose header breaks no rule.
@@ -136,78 +128,42 @@ pub fn path_field(t: Tables, i: u32) -> usize
     t.directories_at as usize + 4 + 4 * i as usize
 }
 
-// A path that breaks the rule `number`, named in `field`.
-fn bad_path(number: u32, field: usize) -> JudgedPath
-    ensures { result ≡ path_broken number field }
-{
-    let fault = Fault {
-        number,
-        place: field,
-    };
-    JudgedPath {
-        fault,
-        start: 0,
-        length: 0,
-    }
-}
-
-// Rules 6, 17 and 16 on the path of directory `i`, in a cache whose header breaks no rule, and
-// where the path stands if it keeps them.
-pub fn path(cache: &[u8], t: Tables, i: u32) -> JudgedPath
+// Where the path of directory `i` stands, in a cache whose header breaks no rule, or the first of
+// the rules 6, 17 and 16 that it breaks.
+pub fn path(cache: &[u8], t: Tables, i: u32) -> Result<PathPart, Fault>
     requires tables_of { TablesOf cache.now t }
     requires i_bound { i < directories cache.now }
-    ensures { result ≡ path_judged cache.now i }
+    ensures { result ≡ outcome (path_fault cache.now i) (part_of cache.now i) }
 {
     let field = path_field(t, i);
     let start = u32_at(cache, field) as usize;
     let part = strings::from(cache, start);
     let read = paths::read_path(part);
-    let valid_segments = read.valid_segments;
     let extent = read.extent;
-    match extent {
-        Extent::Whole(length) => {
-            if part[0] == b'/' {
-                return bad_path(6, field);
-            }
-            if !valid_segments {
-                return bad_path(16, field);
-            }
-            let fault = Fault {
-                number: 0,
-                place: 0,
-            };
-            JudgedPath {
-                fault,
-                start,
-                length,
-            }
-        }
-        _ => JudgedPath {
-            fault: strings::judge(extent, 6, field),
-            start: 0,
-            length: 0,
-        },
+    let length = strings::judge(extent, 6, field)?;
+    if part[0] == b'/' {
+        return Err(Fault {
+            number: 6,
+            place: field,
+        });
     }
+    if !read.valid_segments {
+        return Err(Fault {
+            number: 16,
+            place: field,
+        });
+    }
+    Ok(PathPart { start, length })
 }
 
-// The rule that the first wrong path breaks, 6, 17 or 16, and its place, in a cache whose header
+// The rule that the first wrong path breaks, 6, 17 or 16, if there is one, in a cache whose header
 // breaks no rule.
-pub fn paths(cache: &[u8], t: Tables) -> Fault
+pub fn paths(cache: &[u8], t: Tables) -> Result<(), Fault>
     requires { TablesOf cache.now t }
-    ensures { result ≡ paths_fault (directories cache.now) cache.now 0 }
+    ensures { result ≡ verdict (paths_fault (directories cache.now) cache.now 0) }
 {
-    let n = t.directories;
-    let mut i = 0;
-    while i < n {
-        let judged = path(cache, t, i);
-        let fault = judged.fault;
-        if fault.number != 0 {
-            return fault;
-        }
-        i += 1;
+    for i in 0..t.directories {
+        path(cache, t, i)?;
     }
-    Fault {
-        number: 0,
-        place: 0,
-    }
+    Ok(())
 }
