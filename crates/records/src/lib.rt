@@ -4,7 +4,7 @@
 
 ghost use Rattle.std.specs.Prelude.{◌≡◌, ◌+◌, ◌*◌, ◌^◌, ◌<◌, ◌≤◌, true, ◌++◌, length, drop};
 ghost use Rattle.format.specs.Number.{be};
-ghost use Rattle.format.specs.Fault.{no_fault};
+ghost use Rattle.format.specs.Fault.{no_fault, verdict};
 ghost use Rattle.format.specs.String.{allowed};
 ghost use Rattle.format.specs.Header.{directories};
 ghost use Rattle.format.specs.Record.{name_part, bears_name, images_at, images, valid_image_list, valid_image, images_fault, name_fault, list_fault, record_fault, first_word, image_words};
@@ -14,7 +14,7 @@ ghost use Rattle.tables.specs.Tables.{TablesOf};
 ghost use Rattle.records.specs.ValidWords.{valid_words};
 
 use bigendian::{u16_at, u32_at};
-use format::{Extent, Fault, LookupAnswer};
+use format::{Fault, LookupAnswer};
 use std::num::wrapping_sub_u32;
 use tables::{Tables, list_inside};
 
@@ -62,35 +62,26 @@ pub fn valid_image(cache: &[u8], valid: ValidWords, at: usize) -> bool
     ensures { result ≡ valid_image cache.now at }
 {
     let word = first_word(cache, at);
-    if wrapping_sub_u32(word, valid.lowest) < valid.span {
-        word % 0x1_0000 <= 15
-    } else {
-        false
-    }
+    wrapping_sub_u32(word, valid.lowest) < valid.span && word % 0x1_0000 <= 15
 }
 
-// The first of `m` images from `at` on that breaks rule 11, where there are `n` directories.
-fn images(cache: &[u8], n: u32, m: u32, at: usize) -> Fault
+// The first of `m` images from `at` on that breaks rule 11, if one does, where there are `n`
+// directories.
+fn images(cache: &[u8], n: u32, m: u32, at: usize) -> Result<(), Fault>
     requires { (n < 65536) × (n ≡ directories cache.now) × (at + 8 * m ≤ length cache.now) }
-    ensures { result ≡ images_fault m cache.now at }
+    ensures { result ≡ verdict (images_fault m cache.now at) }
 {
     let valid = valid_words(n);
-    let mut left = m;
-    let mut here = at;
-    while 0 < left {
-        if !valid_image(cache, valid, here) {
-            return Fault {
+    for i in 0..m as usize {
+        let image = at + 8 * i;
+        if !valid_image(cache, valid, image) {
+            return Err(Fault {
                 number: 11,
-                place: here,
-            };
+                place: image,
+            });
         }
-        here += 8;
-        left -= 1;
     }
-    Fault {
-        number: 0,
-        place: 0,
-    }
+    Ok(())
 }
 
 // Whether the image list at `at` lies inside and is not too long.
@@ -98,11 +89,7 @@ pub fn valid_image_list(cache: &[u8], at: usize) -> bool
     requires { at < 2 ^ 32 }
     ensures { result ≡ valid_image_list cache.now at }
 {
-    if list_inside(cache, at, 8) {
-        u32_at(cache, at) <= 1024
-    } else {
-        false
-    }
+    list_inside(cache, at, 8) && u32_at(cache, at) <= 1024
 }
 
 // The part of the cache from the name of `record` on.
@@ -116,47 +103,45 @@ fn name_part(cache: &[u8], record: usize) -> &[u8]
 
 // Rules 8, 17 and 9 on the name of `record`, on the chain of `bucket`. A name that is `known` to
 // keep them isn't read.
-pub fn judge_name(cache: &[u8], t: Tables, bucket: u32, record: usize, known: bool) -> Fault
+pub fn judge_name(
+    cache: &[u8],
+    t: Tables,
+    bucket: u32,
+    record: usize,
+    known: bool,
+) -> Result<(), Fault>
     requires tables_of { TablesOf cache.now t }
     requires record_in_bounds { «record» + 12 ≤ length cache.now }
     requires record_value { known ≡ true → name_fault cache.now bucket «record» ≡ no_fault }
-    ensures { result ≡ name_fault cache.now bucket «record» }
+    ensures { result ≡ verdict (name_fault cache.now bucket «record») }
 {
     if known {
-        return Fault {
-            number: 0,
-            place: 0,
-        };
+        return Ok(());
     }
     let name = strings::read_name(name_part(cache, record));
     let extent = name.extent;
-    let Extent::Whole(_) = extent else {
-        return strings::judge(extent, 8, record + 4);
-    };
+    strings::judge(extent, 8, record + 4)?;
     if name.hash % t.buckets != bucket {
-        return Fault {
+        return Err(Fault {
             number: 9,
             place: record + 4,
-        };
+        });
     }
-    Fault {
-        number: 0,
-        place: 0,
-    }
+    Ok(())
 }
 
 // Rules 10 and 11 on the images of `record`.
-fn judge_images(cache: &[u8], t: Tables, record: usize) -> Fault
+fn judge_images(cache: &[u8], t: Tables, record: usize) -> Result<(), Fault>
     requires tables_of { TablesOf cache.now t }
     requires record_in_bounds { «record» + 12 ≤ length cache.now }
-    ensures { result ≡ list_fault cache.now «record» }
+    ensures { result ≡ verdict (list_fault cache.now «record») }
 {
     let at = u32_at(cache, record + 8) as usize;
     if !valid_image_list(cache, at) {
-        return Fault {
+        return Err(Fault {
             number: 10,
             place: record + 8,
-        };
+        });
     }
     let m = u32_at(cache, at);
     let n = t.directories;
@@ -165,16 +150,13 @@ fn judge_images(cache: &[u8], t: Tables, record: usize) -> Fault
 
 // The first of the rules 8 to 11 and 17 that `record` breaks, on the chain of `bucket`. A name that
 // is `known` to keep 8, 17 and 9 isn't read.
-pub fn judge(cache: &[u8], t: Tables, bucket: u32, record: usize, known: bool) -> Fault
+pub fn judge(cache: &[u8], t: Tables, bucket: u32, record: usize, known: bool) -> Result<(), Fault>
     requires tables_of { TablesOf cache.now t }
     requires record_in_bounds { «record» + 12 ≤ length cache.now }
     requires record_value { known ≡ true → name_fault cache.now bucket «record» ≡ no_fault }
-    ensures { result ≡ record_fault Short cache.now bucket «record» }
+    ensures { result ≡ verdict (record_fault Short cache.now bucket «record») }
 {
-    let fault = judge_name(cache, t, bucket, record, known);
-    if fault.number != 0 {
-        return fault;
-    }
+    judge_name(cache, t, bucket, record, known)?;
     judge_images(cache, t, record)
 }
 
@@ -193,9 +175,7 @@ pub fn write_images(cache: &[u8], at: usize, m: usize, words: &mut [u32])
     requires { (at + 8 * m ≤ length cache.now) × (2 * m ≤ length words.old) }
     ensures { words.new ≡ image_words m cache.now at ++ drop (2 * m) words.old }
 {
-    let mut i = m;
-    while 0 < i {
-        i -= 1;
+    for i in (0..m).rev() {
         let image = at + 8 * i;
         words[2 * i] = first_word(cache, image);
         words[2 * i + 1] = u32_at(cache, image + 4);
