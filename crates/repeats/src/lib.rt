@@ -42,16 +42,14 @@ fn take_in(cache: &[u8], field: usize, n: usize, index: &mut [u32]) -> usize
     ensures { Taken (key_at Ended cache.now) (name_along cache.now field) index.new n result }
 {
     let mut at = field;
-    let mut i = 0;
-    while i < n {
+    for i in 0..n {
         let next = read_record(cache, at);
         if met(cache, Kind::Ended, index, i, next.name) {
             return i;
         }
         at = next.offset;
-        i += 1;
     }
-    i
+    n
 }
 
 // How many of the `n` records from `field` on come before the first whose name one of the first
@@ -61,24 +59,14 @@ fn look_for(cache: &[u8], field: usize, n: usize, index: &[u32], entries: usize)
     ensures { (before : List (List ℕ)) → Represents (key_at Ended cache.now) index.now entries before → Looked (name_along cache.now field) before n result }
 {
     let mut at = field;
-    let mut i = 0;
-    while i < n {
+    for i in 0..n {
         let next = read_record(cache, at);
         if holds(cache, Kind::Ended, index, entries, next.name) {
             return i;
         }
         at = next.offset;
-        i += 1;
     }
-    i
-}
-
-// How many of `left` records are taken in at once.
-fn block(left: usize, room: usize) -> usize
-    requires { (0 < left) × (0 < room) }
-    ensures { (0 < result) × (result ≤ left) × (result ≤ room) }
-{
-    if left < room { left } else { room }
+    n
 }
 
 // How many of the `n` records from `field` on come before the first that repeats a name; `n` where
@@ -92,7 +80,7 @@ pub fn first(cache: &[u8], field: usize, n: usize, index: &mut [u32]) -> usize
     let mut done = 0;
     let mut left = n;
     while 0 < left {
-        let size = block(left, index.len());
+        let size = left.min(index.len());
         let taken = take_in(cache, at, size, index);
         if taken < size {
             return done + taken;
