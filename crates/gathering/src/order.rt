@@ -49,12 +49,9 @@ pub fn records(cache: &[u8], t: Tables, index: &mut [u32]) -> usize
     requires { Sound cache.now t × (length (all_records Short cache.now) ≤ length index.old) }
     ensures { Ordered cache.now index.new result }
 {
-    let buckets = t.buckets;
     let mut n = 0;
-    let mut bucket = 0;
-    while bucket < buckets {
+    for bucket in 0..t.buckets {
         n = take_chain(cache, t, bucket, index, n);
-        bucket += 1;
     }
     n
 }

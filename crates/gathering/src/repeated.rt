@@ -1,6 +1,7 @@
 // The first name of a cache that a record before it has too. Equal names lie on one chain, so each
 // chain is looked through by itself.
 ghost use Rattle.std.specs.Prelude.{◌≡◌, [], ◌<◌, length};
+ghost use Rattle.format.specs.Fault.{verdict};
 ghost use Rattle.format.specs.Header.{buckets};
 ghost use Rattle.format.specs.Words.{Holds};
 ghost use Rattle.format.specs.declared.Reading.TheVariants.{Short};
@@ -33,41 +34,29 @@ pub fn count(cache: &[u8], t: Tables, bucket: u32) -> usize
 
 // 20 at the first name on the chain of `bucket` that a record before it has too. `index` may hold
 // anything.
-fn on_chain(cache: &[u8], t: Tables, bucket: u32, index: &mut [u32]) -> Fault
+fn on_chain(cache: &[u8], t: Tables, bucket: u32, index: &mut [u32]) -> Result<(), Fault>
     requires { Sound cache.now t × (bucket < buckets cache.now) × (0 < length index.old) }
-    ensures { result ≡ chain_repeat cache.now bucket }
+    ensures { result ≡ verdict (chain_repeat cache.now bucket) }
 {
     let field = bucket_field(t, bucket);
     let n = count(cache, t, bucket);
     let first = repeats::first(cache, field, n, index);
     if first < n {
-        return Fault {
+        return Err(Fault {
             number: 20,
             place: ahead(cache, field, first + 1) + 4,
-        };
+        });
     }
-    Fault {
-        number: 0,
-        place: 0,
-    }
+    Ok(())
 }
 
 // 20 at the first name in the check's order that a record before it has too.
-pub fn in_cache(cache: &[u8], t: Tables, index: &mut [u32]) -> Fault
+pub fn in_cache(cache: &[u8], t: Tables, index: &mut [u32]) -> Result<(), Fault>
     requires { Sound cache.now t × (0 < length index.old) }
-    ensures { result ≡ repeat_fault [] (record_uses cache.now) }
+    ensures { result ≡ verdict (repeat_fault [] (record_uses cache.now)) }
 {
-    let buckets = t.buckets;
-    let mut bucket = 0;
-    while bucket < buckets {
-        let fault = on_chain(cache, t, bucket, index);
-        if fault.number != 0 {
-            return fault;
-        }
-        bucket += 1;
+    for bucket in 0..t.buckets {
+        on_chain(cache, t, bucket, index)?;
     }
-    Fault {
-        number: 0,
-        place: 0,
-    }
+    Ok(())
 }

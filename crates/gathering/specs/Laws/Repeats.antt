@@ -1,6 +1,6 @@
 -- 20 among names one after the other, and along one chain: it stands at the first repeat there.
 use Prim.Native.Nat.{ℕ, zero, suc, ◌+◌, ◌≤◌, ◌<◌}
-use Rattle.std.specs.Prelude.{◌≡◌, ◌⊎◌, false, ◌||◌, length}
+use Rattle.std.specs.Prelude.{◌≡◌, false, ◌||◌, length}
 use Rattle.std.proofs.Math.Path.{refl, ap}
 use Rattle.std.proofs.Common.{sym, ◌∙◌, ⊎_elim, add-one, arith}
 use mathlib.Core.List.{List, [], ◌∷◌, ◌++◌, map-append}
