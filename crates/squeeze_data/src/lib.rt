@@ -4,6 +4,7 @@
 ghost use Rattle.std.specs.Prelude.{◌≡◌, ◌+◌, ◌*◌, ◌≤◌, length};
 ghost use Rattle.format.specs.Chain.{all_records};
 ghost use Rattle.format.specs.declared.Reading.TheVariants.{Short};
+ghost use Rattle.format.specs.Fault.{verdict};
 ghost use Rattle.tables.specs.Tables.{Sound};
 ghost use Rattle.squeeze_spec.specs.Call.{images_data_fault, record_data_fault, data_fault};
 ghost use Rattle.squeeze_data.specs.Listed.{ListInside};
@@ -13,54 +14,42 @@ use format::Fault;
 use in_order::{first, next};
 use tables::Tables;
 
-// The first of `m` images from `at` on that has image data.
-fn in_list(cache: &[u8], m: usize, at: usize) -> Fault
+// 25 at the first of `m` images from `at` on that has image data.
+fn in_list(cache: &[u8], m: usize, at: usize) -> Result<(), Fault>
     requires { at + 8 * m ≤ length cache.now }
-    ensures { result ≡ images_data_fault m cache.now at }
+    ensures { result ≡ verdict (images_data_fault m cache.now at) }
 {
-    let mut left = m;
-    let mut here = at;
-    while 0 < left {
-        if u32_at(cache, here + 4) != 0 {
-            return Fault {
+    for i in 0..m {
+        let image = at + 8 * i;
+        if u32_at(cache, image + 4) != 0 {
+            return Err(Fault {
                 number: 25,
-                place: here,
-            };
+                place: image,
+            });
         }
-        here += 8;
-        left -= 1;
     }
-    Fault {
-        number: 0,
-        place: 0,
-    }
+    Ok(())
 }
 
-// The first image of `record` that has image data.
-fn in_record(cache: &[u8], record: usize) -> Fault
+// 25 at the first image of `record` that has image data.
+fn in_record(cache: &[u8], record: usize) -> Result<(), Fault>
     requires { ListInside cache.now «record» }
-    ensures { result ≡ record_data_fault cache.now «record» }
+    ensures { result ≡ verdict (record_data_fault cache.now «record») }
 {
     let list = u32_at(cache, record + 8) as usize;
     let count = u32_at(cache, list) as usize;
     in_list(cache, count, list + 4)
 }
 
-// The first image in the check's order that has image data.
-pub fn image_data(cache: &[u8], t: Tables) -> Fault
+// 25 at the first image in the check's order that has image data.
+pub fn image_data(cache: &[u8], t: Tables) -> Result<(), Fault>
     requires { Sound cache.now t }
-    ensures { result ≡ data_fault cache.now (all_records Short cache.now) }
+    ensures { result ≡ verdict (data_fault cache.now (all_records Short cache.now)) }
 {
     let mut cursor = first(cache, t);
     while cursor.record != 0xFFFF_FFFF {
-        let fault = in_record(cache, cursor.record as usize);
-        if fault.number != 0 {
-            return fault;
-        }
+        in_record(cache, cursor.record as usize)?;
         cursor = next(cache, t, cursor);
     }
-    Fault {
-        number: 0,
-        place: 0,
-    }
+    Ok(())
 }
