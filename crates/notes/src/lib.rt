@@ -3,29 +3,14 @@
 #![tactic(auto)]
 
 ghost use Rattle.std.specs.Prelude.{◌≡◌, ◌+◌, ◌*◌, ◌≤◌, ◌<◌, ◌^◌, length};
-ghost use Rattle.format.specs.Fault.{fault, no_fault, first_fault, step_on};
+ghost use Rattle.format.specs.Fault.{first_fault, step_on, verdict};
 ghost use Rattle.format.specs.String.{extent};
 ghost use Rattle.format.specs.Notes.{note_part, pixel_data_inside, valid_entries, note_fault, display_name_fault, pixel_data_fault, rectangle_fault, points_fault, names_fault, meta_data_fault, image_data_fault, notes_fault};
-ghost use Rattle.notes.specs.Again.{KeptBehind, Judges};
+ghost use Rattle.notes.specs.Again.{KeptBehind};
 
 use bigendian::u32_at;
 use format::{Extent, Fault};
 use tables::list_inside;
-
-fn broken(number: u32, place: usize) -> Fault
-    ensures { result ≡ fault number place }
-{
-    Fault { number, place }
-}
-
-fn none() -> Fault
-    ensures { result ≡ no_fault }
-{
-    Fault {
-        number: 0,
-        place: 0,
-    }
-}
 
 // What the string is that `field` names.
 pub fn extent_at(cache: &[u8], field: usize) -> Extent
@@ -38,44 +23,38 @@ pub fn extent_at(cache: &[u8], field: usize) -> Extent
 }
 
 // Rule 24 on it.
-fn note(cache: &[u8], field: usize) -> Fault
+#[tactic(auto, unfolding(format::specs::Notes::note_fault, format::specs::String::is_whole))]
+fn note(cache: &[u8], field: usize) -> Result<(), Fault>
     requires { field + 4 ≤ length cache.now }
-    ensures { result ≡ note_fault cache.now field }
+    ensures { result ≡ verdict (note_fault cache.now field) }
 {
-    let Extent::Whole(_) = extent_at(cache, field) else {
-        return broken(24, field);
-    };
-    none()
+    match extent_at(cache, field) {
+        Extent::Whole(_) => Ok(()),
+        _ => Err(Fault {
+            number: 24,
+            place: field,
+        }),
+    }
 }
 
 // The same on the display name at `at`: its language, then its text.
-fn display_name(cache: &[u8], at: usize) -> Fault
+fn display_name(cache: &[u8], at: usize) -> Result<(), Fault>
     requires { at + 8 ≤ length cache.now }
-    ensures { result ≡ display_name_fault cache.now at }
+    ensures { result ≡ verdict (display_name_fault cache.now at) }
 {
-    let language = note(cache, at);
-    if language.number != 0 {
-        return language;
-    }
+    note(cache, at)?;
     note(cache, at + 4)
 }
 
 // The same on `count` display names from `at` on.
-fn display_names(cache: &[u8], count: u32, at: usize) -> Fault
+fn display_names(cache: &[u8], count: u32, at: usize) -> Result<(), Fault>
     requires { at + 8 * count ≤ length cache.now }
-    ensures { result ≡ first_fault (display_name_fault cache.now) (step_on 8) count at }
+    ensures { result ≡ verdict (first_fault (display_name_fault cache.now) (step_on 8) count at) }
 {
-    let mut left = count;
-    let mut here = at;
-    while 0 < left {
-        let judged = display_name(cache, here);
-        if judged.number != 0 {
-            return judged;
-        }
-        here += 8;
-        left -= 1;
+    for i in 0..count as usize {
+        display_name(cache, at + 8 * i)?;
     }
-    none()
+    Ok(())
 }
 
 // Whether the list at `at` lies inside, with at most 1,024 entries of `size` bytes.
@@ -91,70 +70,78 @@ pub fn valid_entries(cache: &[u8], at: usize, size: usize) -> bool
 }
 
 // Rule 22 on the rectangle that `field` names.
-fn rectangle(cache: &[u8], field: usize) -> Fault
+#[tactic(auto, unfolding(format::specs::Notes::rectangle_fault))]
+fn rectangle(cache: &[u8], field: usize) -> Result<(), Fault>
     requires { field + 4 ≤ length cache.now }
-    ensures { result ≡ rectangle_fault cache.now field }
+    ensures { result ≡ verdict (rectangle_fault cache.now field) }
 {
     let at = u32_at(cache, field) as usize;
     if at == 0 {
-        return none();
+        return Ok(());
     }
     if cache.len() < at + 8 {
-        return broken(22, field);
+        return Err(Fault {
+            number: 22,
+            place: field,
+        });
     }
-    none()
+    Ok(())
 }
 
 // Rule 22 on the attach points that `field` names.
-fn points(cache: &[u8], field: usize) -> Fault
+#[tactic(auto, unfolding(format::specs::Notes::points_fault))]
+fn points(cache: &[u8], field: usize) -> Result<(), Fault>
     requires { field + 4 ≤ length cache.now }
-    ensures { result ≡ points_fault cache.now field }
+    ensures { result ≡ verdict (points_fault cache.now field) }
 {
     let at = u32_at(cache, field) as usize;
     if at == 0 {
-        return none();
+        return Ok(());
     }
     if !valid_entries(cache, at, 4) {
-        return broken(22, field);
+        return Err(Fault {
+            number: 22,
+            place: field,
+        });
     }
-    none()
+    Ok(())
 }
 
 // Rules 22 and 24 on the display names that `field` names.
-fn names(cache: &[u8], field: usize) -> Fault
+fn names(cache: &[u8], field: usize) -> Result<(), Fault>
     requires { field + 4 ≤ length cache.now }
-    ensures { result ≡ names_fault cache.now field }
+    ensures { result ≡ verdict (names_fault cache.now field) }
 {
     let at = u32_at(cache, field) as usize;
     if at == 0 {
-        return none();
+        return Ok(());
     }
     if !valid_entries(cache, at, 8) {
-        return broken(22, field);
+        return Err(Fault {
+            number: 22,
+            place: field,
+        });
     }
     display_names(cache, u32_at(cache, at), at + 4)
 }
 
 // Rules 22 and 24 on the meta data that `field` names, and on its parts.
-fn meta_data(cache: &[u8], field: usize) -> Fault
+fn meta_data(cache: &[u8], field: usize) -> Result<(), Fault>
     requires { field + 4 ≤ length cache.now }
-    ensures { result ≡ meta_data_fault cache.now field }
+    ensures { result ≡ verdict (meta_data_fault cache.now field) }
 {
     let at = u32_at(cache, field) as usize;
     if at == 0 {
-        return none();
+        return Ok(());
     }
     if cache.len() < at + 12 {
-        return broken(22, field);
+        return Err(Fault {
+            number: 22,
+            place: field,
+        });
     }
-    let rect = rectangle(cache, at);
-    if rect.number != 0 {
-        return rect;
-    }
-    let attached = points(cache, at + 4);
-    if attached.number != 0 {
-        return attached;
-    }
+    rectangle(cache, at)?;
+    points(cache, at + 4)?;
     names(cache, at + 8)
 }
 
@@ -171,51 +158,57 @@ fn pixels_inside(cache: &[u8], at: usize) -> bool
 }
 
 // Rules 22 and 23 on the pixel data that `field` names.
-fn pixel_data(cache: &[u8], field: usize) -> Fault
+fn pixel_data(cache: &[u8], field: usize) -> Result<(), Fault>
     requires { field + 4 ≤ length cache.now }
-    ensures { result ≡ pixel_data_fault cache.now field }
+    ensures { result ≡ verdict (pixel_data_fault cache.now field) }
 {
     let at = u32_at(cache, field) as usize;
     if at == 0 {
-        return none();
+        return Ok(());
     }
     if !pixels_inside(cache, at) {
-        return broken(22, field);
+        return Err(Fault {
+            number: 22,
+            place: field,
+        });
     }
     if u32_at(cache, at) != 0 {
-        return broken(23, field);
+        return Err(Fault {
+            number: 23,
+            place: field,
+        });
     }
-    none()
+    Ok(())
 }
 
 // Rules 22 to 24 on the image data that `field` names, and on all behind it.
-fn image_data(cache: &[u8], field: usize) -> Fault
+fn image_data(cache: &[u8], field: usize) -> Result<(), Fault>
     requires { field + 4 ≤ length cache.now }
-    ensures { result ≡ image_data_fault cache.now field }
+    ensures { result ≡ verdict (image_data_fault cache.now field) }
 {
     let data = u32_at(cache, field) as usize;
     if data == 0 {
-        return none();
+        return Ok(());
     }
     if cache.len() < data + 8 {
-        return broken(22, field);
+        return Err(Fault {
+            number: 22,
+            place: field,
+        });
     }
-    let pixels = pixel_data(cache, data);
-    if pixels.number != 0 {
-        return pixels;
-    }
+    pixel_data(cache, data)?;
     meta_data(cache, data + 4)
 }
 
 // The same where the field may hold `last`, an offset that keeps the rules: then it isn't judged
 // again.
-fn again(cache: &[u8], field: usize, last: u32) -> Fault
+fn again(cache: &[u8], field: usize, last: u32) -> Result<(), Fault>
     requires field_in_bounds { field + 4 ≤ length cache.now }
     requires kept_behind { KeptBehind cache.now last }
-    ensures { Judges (image_data_fault cache.now field) result }
+    ensures { result ≡ verdict (image_data_fault cache.now field) }
 {
     if u32_at(cache, field) == last {
-        none()
+        Ok(())
     } else {
         image_data(cache, field)
     }
@@ -223,21 +216,15 @@ fn again(cache: &[u8], field: usize, last: u32) -> Fault
 
 // The same behind each of `count` images from `at` on. Where images in a row have one image data,
 // it is judged once.
-pub fn behind(cache: &[u8], count: u32, at: usize) -> Fault
+pub fn behind(cache: &[u8], count: u32, at: usize) -> Result<(), Fault>
     requires { at + 8 * count ≤ length cache.now }
-    ensures { result ≡ notes_fault count cache.now at }
+    ensures { result ≡ verdict (notes_fault count cache.now at) }
 {
-    let mut left = count;
-    let mut here = at;
     let mut last = 0;
-    while 0 < left {
-        let judged = again(cache, here + 4, last);
-        if judged.number != 0 {
-            return judged;
-        }
-        last = u32_at(cache, here + 4);
-        here += 8;
-        left -= 1;
+    for i in 0..count as usize {
+        let field = at + 8 * i + 4;
+        again(cache, field, last)?;
+        last = u32_at(cache, field);
     }
-    none()
+    Ok(())
 }
