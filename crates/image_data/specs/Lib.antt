@@ -2,5 +2,4 @@
 -- stand in `format` (ImageData, Notes).
 pub mod Call
 pub mod Promise
-pub mod Way
 pub mod Examples

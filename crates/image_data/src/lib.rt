@@ -5,16 +5,15 @@
 
 ghost use Rattle.std.specs.Prelude.{◌≡◌, ℕ, ◌+◌, ◌≤◌, ◌<◌, length, take, drop};
 ghost use Rattle.format.specs.Number.{be};
-ghost use Rattle.format.specs.Fault.{fault, ◌or_else◌};
+ghost use Rattle.format.specs.Fault.{◌or_else◌, outcome};
 ghost use Rattle.format.specs.ImageData.{entry_at};
 ghost use Rattle.format.specs.Notes.{note_fault};
 ghost use Rattle.image_data.specs.Call.{string_is, meta_at, rectangle_at, display_name_at, part_fault, meta_fault, entry_fault, rectangle_call_fault, string_judged, attach_point, display_language, display_text, language_bytes, text_bytes};
 ghost use Rattle.image_data.specs.Call as calls;
 ghost use Rattle.image_data.specs.Promise.{AfterLong};
-ghost use Rattle.image_data.specs.Way.{LeadsTo};
 
 use bigendian::{u16_at, u32_at};
-use format::Extent;
+use format::{Extent, Fault};
 
 // With a refusal the corners are 0.
 #[derive(Clone, Copy)]
@@ -46,108 +45,93 @@ pub struct StringPart {
     pub length: usize,
 }
 
-// How far a call came on its way: what it is refused with, and where the part stands that the way
-// leads to; 0 with a refusal.
-#[derive(Clone, Copy)]
-struct Way {
-    number: u32,
-    place: usize,
-    at: usize,
-}
-
-// A way that ends with a refusal, wherever it was to lead.
-fn stopped(number: u32, place: usize) -> Way
-    requires { 0 < number }
-    ensures { (p : ℕ) → LeadsTo (fault number place) p result }
-{
-    Way {
-        number,
-        place,
-        at: 0,
-    }
-}
-
 // The way to the part at `at`, whose `size` bytes have to lie inside: else 22 with `place`. `at` is
 // any number, so nothing is added to it.
-fn part(cache: &[u8], at: usize, size: usize, place: usize) -> Way
+fn part(cache: &[u8], at: usize, size: usize, place: usize) -> Result<usize, Fault>
     requires { size ≤ length cache.now }
-    ensures { LeadsTo (part_fault cache.now at size place) at result }
+    ensures { result ≡ outcome (part_fault cache.now at size place) at }
 {
     if at == 0 {
-        return stopped(33, 0);
+        return Err(Fault {
+            number: 33,
+            place: 0,
+        });
     }
     if cache.len() - size < at {
-        return stopped(22, place);
+        return Err(Fault { number: 22, place });
     }
-    Way {
-        number: 0,
-        place: 0,
-        at,
-    }
+    Ok(at)
 }
 
 // The way to the meta data, on which rules 1 and 2 are judged first.
-fn meta_data(cache: &[u8], data: usize) -> Way
-    ensures { LeadsTo (meta_fault cache.now «data») (meta_at cache.now «data») result }
+fn meta_data(cache: &[u8], data: usize) -> Result<usize, Fault>
+    ensures { result ≡ outcome (meta_fault cache.now «data») (meta_at cache.now «data») }
 {
     if cache.len() < 12 {
-        return stopped(1, 0);
+        return Err(Fault {
+            number: 1,
+            place: 0,
+        });
     }
     if 16777216 < cache.len() {
-        return stopped(2, 0);
+        return Err(Fault {
+            number: 2,
+            place: 0,
+        });
     }
-    let way = part(cache, data, 8, 0);
-    if way.number != 0 {
-        return way;
-    }
+    part(cache, data, 8, 0)?;
     let field = data + 4;
     part(cache, u32_at(cache, field) as usize, 12, field)
 }
 
 // The way to the rectangle.
-fn rectangle_part(cache: &[u8], data: usize) -> Way
-    ensures { LeadsTo (rectangle_call_fault cache.now «data») (rectangle_at cache.now «data») result }
+fn rectangle_part(cache: &[u8], data: usize) -> Result<usize, Fault>
+    ensures { result ≡ outcome (rectangle_call_fault cache.now «data») (rectangle_at cache.now «data») }
 {
-    let way = meta_data(cache, data);
-    if way.number != 0 {
-        return way;
-    }
-    let field = way.at;
+    let field = meta_data(cache, data)?;
     part(cache, u32_at(cache, field) as usize, 8, field)
 }
 
 // The way to the entry `entry` of the list that `field` names, where each entry has `size` bytes.
-fn listed(cache: &[u8], field: usize, size: usize, entry: usize) -> Way
+fn listed(cache: &[u8], field: usize, size: usize, entry: usize) -> Result<usize, Fault>
     requires { (field + 4 ≤ length cache.now) × (size ≤ 8) }
-    ensures { LeadsTo (entry_fault cache.now field size entry) (entry_at (be 4 cache.now field) size entry) result }
+    ensures { result ≡ outcome (entry_fault cache.now field size entry) (entry_at (be 4 cache.now field) size entry) }
 {
     let list = u32_at(cache, field) as usize;
     if list == 0 {
-        return stopped(33, 0);
+        return Err(Fault {
+            number: 33,
+            place: 0,
+        });
     }
     if !notes::valid_entries(cache, list, size) {
-        return stopped(22, field);
+        return Err(Fault {
+            number: 22,
+            place: field,
+        });
     }
     if u32_at(cache, list) as usize <= entry {
-        return stopped(33, 0);
+        return Err(Fault {
+            number: 33,
+            place: 0,
+        });
     }
-    Way {
-        number: 0,
-        place: 0,
-        at: list + 4 + size * entry,
-    }
+    Ok(list + 4 + size * entry)
 }
 
 // The way to an entry of the list that the meta data names in its field at `which`.
-fn entry_part(cache: &[u8], data: usize, which: usize, size: usize, entry: usize) -> Way
+fn entry_part(
+    cache: &[u8],
+    data: usize,
+    which: usize,
+    size: usize,
+    entry: usize,
+) -> Result<usize, Fault>
     requires { (which ≤ 8) × (size ≤ 8) }
-    ensures { LeadsTo (meta_fault cache.now «data» or_else entry_fault cache.now (meta_at cache.now «data» + which) size entry) (entry_at (be 4 cache.now (meta_at cache.now «data» + which)) size entry) result }
+    ensures { result ≡ outcome (meta_fault cache.now «data» or_else entry_fault cache.now (meta_at cache.now «data» + which) size entry) (entry_at (be 4 cache.now (meta_at cache.now «data» + which)) size entry) }
 {
-    let way = meta_data(cache, data);
-    if way.number != 0 {
-        return way;
-    }
-    listed(cache, way.at + which, size, entry)
+    let at = meta_data(cache, data)?;
+    listed(cache, at + which, size, entry)
 }
 
 // The rectangle behind the IMAGE_DATA_OFFSET `data`.
@@ -155,25 +139,23 @@ pub fn rectangle(cache: &[u8], data: usize) -> RectangleAnswer
     ensures answer { result ≡ calls.rectangle cache.now «data» }
     ensures kept { AfterLong cache.now «data» result.number }
 {
-    let way = rectangle_part(cache, data);
-    let at = way.at;
-    if way.number != 0 {
-        return RectangleAnswer {
-            number: way.number,
-            place: way.place,
+    match rectangle_part(cache, data) {
+        Ok(at) => RectangleAnswer {
+            number: 0,
+            place: 0,
+            x0: u16_at(cache, at),
+            y0: u16_at(cache, at + 2),
+            x1: u16_at(cache, at + 4),
+            y1: u16_at(cache, at + 6),
+        },
+        Err(fault) => RectangleAnswer {
+            number: fault.number,
+            place: fault.place,
             x0: 0,
             y0: 0,
             x1: 0,
             y1: 0,
-        };
-    }
-    RectangleAnswer {
-        number: way.number,
-        place: way.place,
-        x0: u16_at(cache, at),
-        y0: u16_at(cache, at + 2),
-        x1: u16_at(cache, at + 4),
-        y1: u16_at(cache, at + 6),
+        },
     }
 }
 
@@ -182,31 +164,29 @@ pub fn attach_point(cache: &[u8], data: usize, entry: usize) -> PointAnswer
     ensures answer { result ≡ attach_point cache.now «data» entry }
     ensures kept { AfterLong cache.now «data» result.number }
 {
-    let way = entry_part(cache, data, 4, 4, entry);
-    let at = way.at;
-    if way.number != 0 {
-        return PointAnswer {
-            number: way.number,
-            place: way.place,
+    match entry_part(cache, data, 4, 4, entry) {
+        Ok(at) => PointAnswer {
+            number: 0,
+            place: 0,
+            x: u16_at(cache, at),
+            y: u16_at(cache, at + 2),
+        },
+        Err(fault) => PointAnswer {
+            number: fault.number,
+            place: fault.place,
             x: 0,
             y: 0,
-        };
-    }
-    PointAnswer {
-        number: way.number,
-        place: way.place,
-        x: u16_at(cache, at),
-        y: u16_at(cache, at + 2),
+        },
     }
 }
 
 // A refusal of a string.
-fn no_string(number: u32, place: usize) -> StringPart
-    ensures { result ≡ string_is number place 0 0 }
+fn no_string(fault: Fault) -> StringPart
+    ensures { result ≡ string_is fault.number fault.place 0 0 }
 {
     StringPart {
-        number,
-        place,
+        number: fault.number,
+        place: fault.place,
         start: 0,
         length: 0,
     }
@@ -217,14 +197,17 @@ fn string(cache: &[u8], field: usize) -> StringPart
     requires { field + 4 ≤ length cache.now }
     ensures { result ≡ string_judged cache.now field (note_fault cache.now field) }
 {
-    let Extent::Whole(length) = notes::extent_at(cache, field) else {
-        return no_string(24, field);
-    };
-    StringPart {
-        number: 0,
-        place: 0,
-        start: u32_at(cache, field) as usize,
-        length,
+    match notes::extent_at(cache, field) {
+        Extent::Whole(length) => StringPart {
+            number: 0,
+            place: 0,
+            start: u32_at(cache, field) as usize,
+            length,
+        },
+        _ => no_string(Fault {
+            number: 24,
+            place: field,
+        }),
     }
 }
 
@@ -233,11 +216,10 @@ fn display(cache: &[u8], data: usize, entry: usize, which: usize) -> StringPart
     requires { which ≤ 4 }
     ensures { result ≡ calls.display cache.now «data» entry (display_name_at cache.now «data» entry + which) }
 {
-    let way = entry_part(cache, data, 8, 8, entry);
-    if way.number != 0 {
-        return no_string(way.number, way.place);
+    match entry_part(cache, data, 8, 8, entry) {
+        Ok(at) => string(cache, at + which),
+        Err(fault) => no_string(fault),
     }
-    string(cache, way.at + which)
 }
 
 // The language of the display name `entry` behind the IMAGE_DATA_OFFSET `data`.

@@ -1,55 +1,93 @@
 -- The calls' answers, by the way that was gone.
-use Prim.Native.Nat.{ℕ, suc, ◌+◌, ◌-◌}
-use Rattle.std.specs.Prelude.{◌≡◌, List}
-use Rattle.std.proofs.Math.Path.{sym, ap}
-use Rattle.std.proofs.Common.{◌∙◌}
-use native.Mathlib.Omega.{arith}
+use Rattle.std.specs.Prelude.{ℕ, suc, ◌+◌, ◌-◌, ◌≡◌, ◌≤◌, List, length, Ok, Err}
+use Rattle.std.proofs.Common.{sym, ap, ◌∙◌, arith}
 use Rattle.format.specs.Number.{be}
-use Rattle.format.specs.Fault.{◌or_else◌}
+use Rattle.format.specs.Fault.{◌or_else◌, outcome}
 use Rattle.format.specs.ImageData.{names_field, point_size, entry_at, display_name_size}
 use Rattle.format.specs.Notes.{note_fault}
-use Rattle.format.proofs.Laws.Faults.{or_else-next, or_else-assoc}
-use Rattle.image_data.specs.declared.Way.{Way}
-use Rattle.image_data.specs.Call.{rectangle_is, point_is, string_is, meta_at, rectangle_at, points_at, display_name_at, meta_fault, entry_fault, rectangle_call_fault, rectangle, point_fault, attach_point, display_fault, string_judged, display}
-use Rattle.image_data.specs.Way.{LeadsTo}
-use Rattle.image_data.proofs.Laws.Way.{way-kept, way-ends}
+use Rattle.format.specs.declared.Fault.{Fault}
+use Rattle.format.proofs.Laws.Faults.{or_else-first, or_else-next, or_else-none, or_else-assoc}
+use Rattle.format.proofs.Laws.Outcomes.{kept-by, broken-by}
+use Rattle.image_data.specs.Call.{rectangle_is, point_is, string_is, meta_at, rectangle_at, points_at, display_name_at, part_fault, meta_fault, entry_fault, rectangle_call_fault, rectangle, point_fault, attach_point, display_fault, string_judged, display}
+use Rattle.image_data.proofs.Laws.Judged.{part-inside, entry-inside}
+use Rattle.image_data.proofs.Laws.Way.{Clean, clean-unless, clean-or_else}
 
-module _ (s : List ℕ) (d : ℕ) {w : Way} (l : LeadsTo (rectangle_call_fault s d) (rectangle_at s d) w) where
-  pub rectangle-refused : (w.number ≡ 0 → ⊥) → rectangle_is w.number w.place 0 0 0 0 ≡ rectangle s d
+clean-part : (s : List ℕ) (p size place : ℕ) → Clean (part_fault s p size place)
+unfolding part_fault
+clean-part s p size place = clean-or_else _ _ (clean-unless _ _ _)
+
+clean-entry : (s : List ℕ) (f size i : ℕ) → Clean (entry_fault s f size i)
+unfolding entry_fault
+clean-entry s f size i = clean-or_else _ _ (clean-or_else _ _ (clean-unless _ _ _))
+
+module _ (s : List ℕ) (d : ℕ) where
+  pub rectangle-refused : {f : Fault} → Err f ≡ outcome (rectangle_call_fault s d) (rectangle_at s d) → rectangle_is f.number f.place 0 0 0 0 ≡ rectangle s d
   unfolding rectangle
-  rectangle-refused h =
-      let more : w.number ≡ suc (w.number - 1) = omega arith in
-      rw (← l.judged, more)
+  rectangle-refused {f} e =
+      let way = broken-by _ (rectangle_at s d) f e in
+      let more : (rectangle_call_fault s d).number ≡ suc ((rectangle_call_fault s d).number - 1) = omega (arith, way.0) in
+      rw (way.1, more)
 
-  pub rectangle-found : w.number ≡ 0
-      → rectangle_is w.number w.place (be 2 s w.at) (be 2 s (w.at + 2)) (be 2 s (w.at + 4)) (be 2 s (w.at + 6)) ≡ rectangle s d
+  -- the corners lie inside
+  pub rectangle-inside : {p : ℕ} → Ok p ≡ outcome (rectangle_call_fault s d) (rectangle_at s d) → p + 8 ≤ length s
+  unfolding rectangle_call_fault
+  rectangle-inside {p} e =
+      let way = kept-by _ (rectangle_at s d) p e in
+      rw way.1 (part-inside _ _ _ _ (or_else-none _ _ way.0).1)
+
+  clean : Clean (rectangle_call_fault s d)
+  unfolding rectangle_call_fault
+  clean = clean-or_else _ _ (clean-part _ _ _ _)
+
+  pub rectangle-found : {p : ℕ} → Ok p ≡ outcome (rectangle_call_fault s d) (rectangle_at s d)
+      → rectangle_is 0 0 (be 2 s p) (be 2 s (p + 2)) (be 2 s (p + 4)) (be 2 s (p + 6)) ≡ rectangle s d
   unfolding rectangle
-  rectangle-found h = rw (← l.judged, l.leads h, h)
+  rectangle-found {p} e =
+      let way = kept-by _ (rectangle_at s d) p e in
+      rw (way.1, clean way.0)
 
-module _ (s : List ℕ) (d i : ℕ) {w : Way} (l : LeadsTo (point_fault s d i) (entry_at (points_at s d) point_size i) w) where
-  pub point-refused : (w.number ≡ 0 → ⊥) → point_is w.number w.place 0 0 ≡ attach_point s d i
-  unfolding attach_point
-  point-refused h =
-      let more : w.number ≡ suc (w.number - 1) = omega arith in
-      rw (← l.judged, more)
+-- an entry to which a way leads lies inside
+pub way-inside : (s : List ℕ) (v : Fault) (f size i : ℕ) {p : ℕ} → Ok p ≡ outcome (v or_else entry_fault s f size i) (entry_at (be 4 s f) size i) → p + size ≤ length s
+way-inside s v f size i {p} e =
+    let way = kept-by _ (entry_at (be 4 s f) size i) p e in
+    rw way.1 (entry-inside _ _ _ _ (or_else-none _ _ way.0).1)
 
-  pub point-found : w.number ≡ 0 → point_is w.number w.place (be 2 s w.at) (be 2 s (w.at + 2)) ≡ attach_point s d i
+module _ (s : List ℕ) (d i : ℕ) where
+  pub point-refused : {f : Fault} → Err f ≡ outcome (point_fault s d i) (entry_at (points_at s d) point_size i) → point_is f.number f.place 0 0 ≡ attach_point s d i
   unfolding attach_point
-  point-found h = rw (← l.judged, l.leads h, h)
+  point-refused {f} e =
+      let way = broken-by _ (entry_at (points_at s d) point_size i) f e in
+      let more : (point_fault s d i).number ≡ suc ((point_fault s d i).number - 1) = omega (arith, way.0) in
+      rw (way.1, more)
+
+  clean-point : Clean (point_fault s d i)
+  unfolding point_fault
+  clean-point = clean-or_else _ _ (clean-entry _ _ _ _)
+
+  pub point-found : {p : ℕ} → Ok p ≡ outcome (point_fault s d i) (entry_at (points_at s d) point_size i) → point_is 0 0 (be 2 s p) (be 2 s (p + 2)) ≡ attach_point s d i
+  unfolding attach_point
+  point-found {p} e =
+      let way = kept-by _ (entry_at (points_at s d) point_size i) p e in
+      rw (way.1, clean-point way.0)
 
 -- the way to a display name, then rule 24 on the string that the field f names
-module _ (s : List ℕ) (d i f : ℕ) {w : Way}
-    (l : LeadsTo (meta_fault s d or_else entry_fault s (names_field (meta_at s d)) display_name_size i) (display_name_at s d i) w) where
+module _ (s : List ℕ) (d i f : ℕ) where
   way-first : display_fault s d i f ≡ ((meta_fault s d or_else entry_fault s (names_field (meta_at s d)) display_name_size i) or_else note_fault s f)
   unfolding display_fault
   way-first = sym (or_else-assoc _ _ _)
 
-  pub display-refused : (w.number ≡ 0 → ⊥) → string_is w.number w.place 0 0 ≡ display s d i f
+  pub display-refused : {v : Fault}
+      → Err v ≡ outcome (meta_fault s d or_else entry_fault s (names_field (meta_at s d)) display_name_size i) (display_name_at s d i)
+      → string_is v.number v.place 0 0 ≡ display s d i f
   unfolding display
-  display-refused h =
-      let more : w.number ≡ suc (w.number - 1) = omega arith in
-      rw (way-first, ← (way-ends l (note_fault s f) 0 h).judged, more)
+  display-refused {v} e =
+      let way = broken-by _ (display_name_at s d i) v e in
+      let first = meta_fault s d or_else entry_fault s (names_field (meta_at s d)) display_name_size i in
+      let more : first.number ≡ suc (first.number - 1) = omega (arith, way.0) in
+      rw (way.1, way-first, or_else-first first (note_fault s f) way.0, more)
 
-  pub display-judged : w.number ≡ 0 → string_judged s f (note_fault s f) ≡ display s d i f
+  pub display-judged : {p : ℕ}
+      → Ok p ≡ outcome (meta_fault s d or_else entry_fault s (names_field (meta_at s d)) display_name_size i) (display_name_at s d i)
+      → string_judged s f (note_fault s f) ≡ display s d i f
   unfolding display
-  display-judged h = ap (string_judged s f) (sym (way-first ∙ or_else-next _ _ (way-kept l h)))
+  display-judged {p} e = ap (string_judged s f) (sym (way-first ∙ or_else-next _ _ (kept-by _ (display_name_at s d i) p e).0))

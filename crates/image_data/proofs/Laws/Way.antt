@@ -1,26 +1,30 @@
--- Which judgement counts on a call's way.
-use Rattle.std.specs.Prelude.{ℕ, ◌≡◌}
-use Rattle.std.proofs.Common.{sym, ◌∙◌}
-use Rattle.format.specs.Fault.{◌or_else◌}
-use Rattle.format.proofs.Laws.Faults.{same_number, or_else-first, or_else-next}
+-- Judgements on a call's way: which counts, and that one that names no broken rule names no place
+-- either.
+use Rattle.std.specs.Prelude.{ℕ, suc, ◌≡◌, refl, Bool, true, false, Ok, Err}
+use Rattle.std.proofs.Common.{sym, ap, ◌∙◌, arith}
+use Rattle.format.specs.Fault.{no_fault, unless, ◌or_else◌, outcome}
 use Rattle.format.specs.declared.Fault.{Fault}
-use Rattle.image_data.specs.declared.Way.{Way}
-use Rattle.image_data.specs.Way.{LeadsTo}
+use Rattle.format.proofs.Laws.Faults.{or_else-first, or_else-next, or_else-none}
+use Rattle.format.proofs.Laws.Outcomes.{outcome-broken, kept-by, broken-by}
 
-pub same_way : {x v : Fault} {p : ℕ} {w : Way} → v ≡ x → LeadsTo x p w → LeadsTo v p w
-same_way e l = record { judged = l.judged ∙ sym e; leads = l.leads }
+abbrev pub Clean : Fault → Type 0
+Clean v = v.number ≡ 0 → v ≡ no_fault
 
--- the way goes on after a judgement that names no broken rule
-pub way_on : (x : Fault) {y : Fault} {p : ℕ} {w : Way} → x.number ≡ 0 → LeadsTo y p w → LeadsTo (x or_else y) p w
-way_on x h l = same_way (or_else-next x _ h) l
+pub clean-unless : (b : Bool) (n p : ℕ) → Clean (unless b (suc n) p)
+clean-unless true n p e = refl
+clean-unless false n p e = absurd (omega arith)
 
-module _ {x : Fault} {p : ℕ} {w : Way} (l : LeadsTo x p w) where
-  pub way-kept : w.number ≡ 0 → x.number ≡ 0
-  way-kept h = sym (same_number l.judged) ∙ h
+pub clean-or_else : (x y : Fault) → Clean y → Clean (x or_else y)
+clean-or_else x y clean e =
+    let kept = or_else-none x y e in
+    or_else-next x y kept.0 ∙ clean kept.1
 
-  -- and ends with one that names one
-  pub way-ends : (y : Fault) (q : ℕ) → (w.number ≡ 0 → ⊥) → LeadsTo (x or_else y) q w
-  way-ends y q h = record {
-    judged = l.judged ∙ sym (or_else-first x y (λ z. h (same_number l.judged ∙ z)));
-    leads = λ z. absurd (h z);
-  }
+-- the way ends with a judgement that names a broken rule, and else goes on
+module _ {A B : Type 0} (v w : Fault) (a : A) (b : B) where
+  pub way-ends : {f : Fault} → Err f ≡ outcome v a → Err f ≡ outcome (v or_else w) b
+  way-ends {f} e =
+      let broken = broken-by v a f e in
+      rw (or_else-first v w broken.0, outcome-broken v b broken.0, broken.1)
+
+  pub way_on : {x : A} → Ok x ≡ outcome v a → outcome w b ≡ outcome (v or_else w) b
+  way_on {x} e = ap (λ u. outcome u b) (sym (or_else-next v w (kept-by v a x e).0))
