@@ -16,18 +16,12 @@ fn header(out: &mut [u8], directories: usize)
     put_u32(out, 8, directories as u32);
 }
 
-// Puts the end value into `n` fields of `out` from `at` on.
+// Puts the end value, all of whose bytes are 255, into `n` fields of `out` from `at` on.
 pub fn clear(out: &mut [u8], at: usize, n: usize)
     requires { at + 4 * n ≤ length out.old }
     ensures { out.new ≡ put out.old at (joined (λ _. bytes 4 end_value) n) }
 {
-    let mut place = at;
-    let mut i = 0;
-    while i < n {
-        put_u32(out, place, 0xFFFF_FFFF);
-        place += 4;
-        i += 1;
-    }
+    out[at..at + 4 * n].fill(0xFF);
 }
 
 // Puts a header and a hash of empty buckets into `out`.

@@ -55,15 +55,15 @@ pub fn lists(catalogue: &[u8], first: usize, icons: usize, out: &mut [u8], at: u
 {
     let mut icon = first;
     let mut place = at;
-    let mut i = 0;
-    while i < icons {
+    for _ in 0..icons {
         place = list(catalogue, icon, out, place);
         icon = icon_end(catalogue, icon);
-        i += 1;
     }
 }
 
 // Puts the names of all icons into `out` at `at`.
+// By hand, as `lists`: one loop for both would take what puts an entry as a closure, and say its
+// contract once more.
 pub fn names(catalogue: &[u8], first: usize, icons: usize, out: &mut [u8], at: usize)
     requires by_index { (m : ℕ) × Judged catalogue.now m icons first }
     requires icons_in_bounds { at + length (names_up_to (catalogue_in catalogue.now) icons) ≤ length out.old }
@@ -71,11 +71,9 @@ pub fn names(catalogue: &[u8], first: usize, icons: usize, out: &mut [u8], at: u
 {
     let mut icon = first;
     let mut place = at;
-    let mut i = 0;
-    while i < icons {
+    for _ in 0..icons {
         place = name(catalogue, icon, out, place);
         icon = icon_end(catalogue, icon);
-        i += 1;
     }
 }
 
@@ -95,11 +93,9 @@ pub fn paths(catalogue: &[u8], n: usize, out: &mut [u8], at: usize)
 {
     let mut here = 2;
     let mut place = at;
-    let mut i = 0;
-    while i < n {
+    for _ in 0..n {
         place = path(catalogue, here, out, place);
         here = path_end(catalogue, here);
-        i += 1;
     }
 }
 
@@ -112,14 +108,10 @@ fn entries(catalogue: &[u8], n: usize, strings: usize, out: &mut [u8], at: usize
 {
     let mut here = 2;
     let mut string = strings;
-    let mut place = at;
-    let mut i = 0;
-    while i < n {
-        put_u32(out, place, string as u32);
-        place += 4;
+    for i in 0..n {
+        put_u32(out, at + 4 * i, string as u32);
         string += u16_at(catalogue, here) as usize + 1;
         here = path_end(catalogue, here);
-        i += 1;
     }
 }
 

@@ -33,11 +33,9 @@ fn lists_end(catalogue: &[u8], first: usize, icons: usize, at: usize) -> usize
 {
     let mut icon = first;
     let mut end = at;
-    let mut i = 0;
-    while i < icons {
+    for _ in 0..icons {
         end += list_size(catalogue, icon);
         icon = icon_end(catalogue, icon);
-        i += 1;
     }
     end
 }

@@ -3,16 +3,14 @@ use Prim.Native.Nat.{◌+◌}
 use mathlib.Core.Path.{◌≡◌, ap, ◌∙◌}
 use mathlib.Core.List.{◌++◌}
 use native.Mathlib.Omega.{arith}
-use borrow.Author.Rules.{rules}
 use lib.ListN.{length, length-append}
 use Rattle.format.specs.Layout.{end_value}
 use Rattle.format.specs.Bytes.{bytes, put}
 use Rattle.format.proofs.Laws.Bytes.{bytes-length}
 use Rattle.format.proofs.Laws.Put.{put_then}
-use Rattle.passes.proofs.record.append.Statement.{statement}
-use Rattle.passes.proofs.record.append.Tie as tie
+use Rattle.passes.proofs.record.append.Goals as goal
 
-returns : tie.Need-returns
+pub returns : goal.returns
 returns c =
     let a = c.args in
     let s = a.out.now in
@@ -21,19 +19,3 @@ returns c =
     let two = put_then s a.at end (bytes 4 a.name) {q = a.at + 4} (omega (arith, bytes-length 4 end_value)) (omega (arith, bytes-length 4 a.name, c.requires)) c.put_u32.ensures c.put_u32-2.ensures in
     let three = put_then s a.at (end ++ bytes 4 a.name) (bytes 4 a.images) {q = a.at + 8} (omega arith) (omega (arith, bytes-length 4 a.images, c.requires)) two c.put_u32-3.ensures in
     c.put_u32-4.ensures ∙ ap (λ o. put o a.field (bytes 4 a.at)) three
-
-pub append_spec : {M : Type 1} → statement M
-append_spec =
-    tie.close
-    (tie.spec
-    (λ c κs. search rules)
-    (λ c. search rules)
-    (λ c. search rules)
-    (λ c κs. search rules)
-    (λ c. search rules)
-    (λ c. search rules)
-    (λ c κs. search rules)
-    (λ c. search rules)
-    (λ c κs. search rules)
-    (λ c. search rules)
-    returns)

@@ -1,17 +1,14 @@
 -- `passes::head::header` meets its contract: four numbers, one behind the other.
-use Prim.Native.Nat.{◌+◌}
 use mathlib.Core.Path.{◌≡◌}
 use mathlib.Core.List.{◌++◌}
 use native.Mathlib.Omega.{arith}
-use borrow.Author.Rules.{rules}
 use lib.ListN.{length, length-append}
 use Rattle.format.specs.Bytes.{bytes}
 use Rattle.format.proofs.Laws.Bytes.{bytes-length}
 use Rattle.format.proofs.Laws.Put.{put_then}
-use Rattle.passes.proofs.head.header.Statement.{statement}
-use Rattle.passes.proofs.head.header.Tie as tie
+use Rattle.passes.proofs.head.header.Goals as goal
 
-returns : tie.Need-returns
+pub returns : goal.returns
 returns c =
     let a = c.args in
     let s = a.out.now in
@@ -21,15 +18,3 @@ returns c =
     let two = put_then s 0 (bytes 2 1) (bytes 2 0) {q = 2} (omega (arith, bytes-length 2 1)) (omega (arith, bytes-length 2 0, c.requires)) c.put_u16.ensures c.put_u16-2.ensures in
     let three = put_then s 0 version (bytes 4 12) {q = 4} (omega arith) (omega (arith, bytes-length 4 12, c.requires)) two c.put_u32.ensures in
     put_then s 0 (version ++ bytes 4 12) (bytes 4 a.directories) {q = 8} (omega arith) (omega (arith, bytes-length 4 a.directories, c.requires)) three c.put_u32-2.ensures
-
-pub header_spec : {M : Type 1} → statement M
-header_spec =
-    tie.close
-    (tie.spec
-    (λ c κs. search rules)
-    (λ c κs. search rules)
-    (λ c κs. search rules)
-    (λ c. search rules)
-    (λ c κs. search rules)
-    (λ c. search rules)
-    returns)

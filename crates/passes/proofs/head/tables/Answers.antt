@@ -1,19 +1,17 @@
 -- `passes::head::tables` meets its contract: the hash, a count and its fields, is put
 -- behind the header.
-use Prim.Native.Nat.{ℕ, ◌+◌, ◌*◌}
+use Prim.Native.Nat.{ℕ, ◌*◌}
 use mathlib.Core.Path.{◌≡◌, ap, ◌∙◌}
 use mathlib.Core.List.{List, ◌++◌, append_assoc}
 use native.Mathlib.Omega.{arith}
-use borrow.Author.Rules.{rules}
 use lib.ListN.{length, length-append}
 use Rattle.format.specs.Layout.{end_value}
 use Rattle.format.specs.Bytes.{bytes, joined, put}
 use Rattle.format.proofs.Laws.Bytes.{bytes-length, joined_length}
 use Rattle.format.proofs.Laws.Put.{put_then}
-use Rattle.passes.proofs.head.tables.Statement.{statement}
-use Rattle.passes.proofs.head.tables.Tie as tie
+use Rattle.passes.proofs.head.tables.Goals as goal
 
-returns : tie.Need-returns
+pub returns : goal.returns
 returns c =
     let a = c.args in
     let s = a.out.now in
@@ -26,14 +24,3 @@ returns c =
     let two = put_then s 0 head count {q = 12} (omega arith) (omega (arith, bytes-length 4 a.buckets, c.requires)) c.header.ensures c.put_u32.ensures in
     put_then s 0 (head ++ count) fields {q = 16} (omega arith) (omega (arith, c.requires)) two c.clear.ensures
     ∙ ap (put s 0) (append_assoc head count fields)
-
-pub tables_spec : {M : Type 1} → statement M
-tables_spec =
-    tie.close
-    (tie.spec
-    (λ c κs. search rules)
-    (λ c. search rules)
-    (λ c κs. search rules)
-    (λ c κs. search rules)
-    (λ c. search rules)
-    returns)
