@@ -22,7 +22,7 @@ fn bucket(catalogue: &[u8], icon: usize, buckets: usize) -> usize
 {
     let text = icon + 1;
     let end = text + byte(catalogue, icon) as usize;
-    let name = strings::asked(&catalogue[text..end]);
+    let name = strings::read_name(&catalogue[text..end]);
     name.hash as usize % buckets
 }
 
@@ -83,14 +83,12 @@ fn append_all(
     let mut at = 16 + 4 * buckets;
     let mut list = lists;
     let mut name = names;
-    let mut i = 0;
-    while i < icons {
+    for _ in 0..icons {
         append(catalogue, icon, buckets, out, at, name, list, last);
         at += 12;
         list += list_size(catalogue, icon);
         name += byte(catalogue, icon) as usize + 1;
         icon = icon_end(catalogue, icon);
-        i += 1;
     }
 }
 

@@ -51,11 +51,12 @@ pub fn write(catalogue: &[u8], buckets: usize, cache: &mut [u8]) -> WriteAnswer
     ensures answer { result ≡ calls.write catalogue.now buckets (length cache.old) }
     ensures lent { cache.new ≡ write_leaves catalogue.now buckets cache.old }
 {
-    let parts = judging::judge(catalogue);
-    let fault = parts.fault;
-    if fault.number != 0 {
-        return refusal(fault.number, fault.place);
-    }
+    let parts = match judging::judge(catalogue) {
+        Ok(parts) => parts,
+        Err(fault) => {
+            return refusal(fault.number, fault.place);
+        }
+    };
     if buckets == 0 || 4096 < buckets {
         return refusal(18, 0);
     }

@@ -1,30 +1,37 @@
 -- What the writer answers and leaves, by what is judged first.
-use Rattle.std.specs.Prelude.{ℕ, ◌+◌, ◌≤◌, ◌<◌, ◌≡◌, List, ◌++◌, ◌⊎◌, true, false, length}
-use Rattle.std.proofs.Common.{sym, ◌∙◌, ⊎_elim, arith, lt-ltb, le-leb}
+use Rattle.std.specs.Prelude.{ℕ, ◌≤◌, ◌<◌, ◌≡◌, List, ◌++◌, ◌⊎◌, true, false, length, Ok}
+use Rattle.std.proofs.Common.{ap, ◌∙◌, ⊎_elim, arith, lt-ltb, le-leb}
 use Rattle.std.proofs.Math.Bool.{and-false}
 use Rattle.std.proofs.Math.Nat.{zero-add}
 use Rattle.std.proofs.lemmas.Bool.{lt-leb}
 use Rattle.std.proofs.Math.ListN.{drop}
-use Rattle.format.specs.Fault.{fault, no_fault, ◌or_else◌}
+use Rattle.format.specs.Fault.{fault, no_fault}
 use Rattle.format.specs.Bytes.{put}
 use Rattle.format.specs.declared.Fault.{Fault}
-use Rattle.format.proofs.Laws.Faults.{same_number, broken-takes, or_else-first, or_else-next, or_else-none, broken-speaks, kept-passes, unless-broken}
+use Rattle.format.proofs.Laws.Outcomes.{kept-by}
+use Rattle.format.proofs.Laws.Faults.{broken-takes, or_else-first, or_else-next, or_else-none, broken-speaks, kept-passes, unless-broken}
 use Rattle.catalogue.specs.Fields.{AreBytes, path_count, icon_count_at, catalogue_in}
 use Rattle.catalogue.specs.Repeats.{catalogue_fault}
 use Rattle.catalogue.specs.Written.{written_size, written}
 use Rattle.catalogue.specs.Call.{write_is, allowed_buckets, allowed_size, write_fault, write, write_leaves}
 use Rattle.catalogue.specs.declared.WriteAnswer.{WriteAnswer}
-use Rattle.judging.specs.Judging.{Parted}
+use Rattle.judging.specs.Judging.{parts_at, parted}
 use Rattle.judging.specs.declared.Parts.{Parts}
 use Rattle.passes.specs.Passes.{Judged}
 
 -- a catalogue that is judged good, by its parts
-pub parts-judged : {c : List ℕ} → AreBytes c → {a : Parts} → Parted c (catalogue_fault c) (path_count c) (icon_count_at c) a → a.fault.number ≡ 0
+pub parts-judged : {c : List ℕ} → AreBytes c → {a : Parts} → Ok a ≡ parted c (catalogue_fault c) (path_count c) (icon_count_at c)
     → Judged c a.paths a.icons a.first_icon
 unfolding catalogue_fault
-parts-judged bytes told kept =
-    let good = sym (same_number told.fault) ∙ kept in
-    record { are-bytes = bytes; good = (or_else-none _ _ good).0; all-paths = told.paths good; all-icons = told.icons good; begin = told.first good }
+parts-judged {c} bytes {a} told =
+    let (good, is) = kept-by (catalogue_fault c) (parts_at c (path_count c) (icon_count_at c)) a told in
+    record {
+      are-bytes = bytes;
+      good = (or_else-none _ _ good).0;
+      all-paths = ap (λ (p : Parts). p.paths) is;
+      all-icons = ap (λ (p : Parts). p.icons) is;
+      begin = ap (λ (p : Parts). p.first_icon) is;
+    }
 
 -- the number of buckets, and the size
 pub buckets-allowed : {b : ℕ} → (b ≡ 0 → ⊥) → b ≤ 4096 → allowed_buckets b ≡ true
