@@ -16,7 +16,6 @@ pub fn byte(out: &mut [u8], at: usize, n: u8) -> usize
 {
     if at < out.len() {
         put_byte(out, at, n);
-        return at + 1;
     }
     at + 1
 }
@@ -28,7 +27,6 @@ pub fn short(out: &mut [u8], at: usize, n: u16) -> usize
 {
     if at + 2 <= out.len() {
         put_u16(out, at, n);
-        return at + 2;
     }
     at + 2
 }
@@ -40,7 +38,6 @@ pub fn long(out: &mut [u8], at: usize, n: u32) -> usize
 {
     if at + 4 <= out.len() {
         put_u32(out, at, n);
-        return at + 4;
     }
     at + 4
 }
@@ -52,7 +49,6 @@ pub fn text(from: &[u8], start: usize, n: usize, out: &mut [u8], at: usize) -> u
 {
     if at + n <= out.len() {
         copy(from, start, n, out, at);
-        return at + n;
     }
     at + n
 }
@@ -65,7 +61,6 @@ pub fn row(report: &mut [u32], at: usize, number: u32, place: usize) -> usize
     if at + 2 <= report.len() {
         report[at] = number;
         report[at + 1] = place as u32;
-        return at + 2;
     }
     at + 2
 }
