@@ -1,13 +1,11 @@
 -- The new indexes of the directories in a table, what is put for the directories, and what becomes
 -- of one image.
-use Rattle.std.specs.Prelude.{ℕ, ◌+◌, ◌*◌, ◌≤◌, ◌<◌, ◌≡◌, List, [], ◌∷◌, length, get_or}
+use Rattle.std.specs.Prelude.{ℕ, ◌+◌, ◌*◌, ◌≤◌, ◌<◌, ◌≡◌, List, [], ◌∷◌, length, get_or, Option, Some, None}
 use Rattle.format.specs.Bytes.{joined}
 use Rattle.format.specs.Header.{directories, path_fault}
 use Rattle.filling.specs.Puts.{Puts}
 use Rattle.salvage_spec.specs.Salvage.{new_index, reindexed, kept_image}
 use Rattle.salvage_spec.specs.Pieces.{path_piece, path_row}
-use Rattle.salvage_paths.specs.declared.KeptImage.{KeptImage}
-use Rattle.salvage_paths.specs.declared.KeptImage.TheVariants.{Goes, Stays}
 
 -- xs has the new index of each directory below n that is kept, and 0xFFFF for each that went; c are
 -- kept
@@ -31,6 +29,6 @@ pub record PathsPut (s lent out : List ℕ) (at : ℕ) (words report : List ℕ)
   pub words-few : w ≤ 2 * n
 
 -- what becomes of the image at p: it goes, or it stays with the index i
-abbrev pub KeepsImage : List ℕ → ℕ → KeptImage → Type 0
-KeepsImage s p Goes = kept_image s p ≡ []
-KeepsImage s p (Stays i) = kept_image s p ≡ reindexed s p i ∷ []
+abbrev pub KeepsImage : List ℕ → ℕ → Option ℕ → Type 0
+KeepsImage s p None = kept_image s p ≡ []
+KeepsImage s p (Some i) = kept_image s p ≡ reindexed s p i ∷ []

@@ -23,15 +23,6 @@ pub struct Closed {
     pub words: usize,
 }
 
-// What becomes of an image.
-#[derive(Clone, Copy)]
-pub enum KeptImage {
-    // It breaks rule 11, or its directory went.
-    Goes,
-    // It stays with this index.
-    Stays(u16),
-}
-
 // Puts a path of `size` bytes, which stands at `start`: its length and its text.
 fn put_path(cache: &[u8], start: usize, size: usize, out: &mut [u8], at: usize) -> usize
     requires { (start + size ≤ length cache.now) × (size < 65536) × (at < 2 ^ 61) }
@@ -55,53 +46,47 @@ pub fn close_up(
     ensures table { ClosedTo cache.now closed.new (directories cache.now) result.kept }
     ensures put { PathsPut cache.now out.old out.new at report.old report.new (directories cache.now) result.bytes result.words }
 {
-    let n = t.directories;
     let mut kept: u16 = 0;
     let mut bytes = at;
     let mut words = 0;
-    let mut i: u32 = 0;
-    while i < n {
-        let judged = path(cache, t, i);
-        let fault = judged.fault;
+    for i in 0..t.directories {
         let place = i as usize;
-        if fault.number == 0 {
-            closed[place] = kept;
-            kept += 1;
-            bytes = put_path(cache, judged.start, judged.length, out, bytes);
-            i += 1;
-        } else {
-            closed[place] = 0xFFFF;
-            words = row(report, words, fault.number, fault.place);
-            i += 1;
+        match path(cache, t, i) {
+            Ok(part) => {
+                closed[place] = kept;
+                kept += 1;
+                bytes = put_path(cache, part.start, part.length, out, bytes);
+            }
+            Err(fault) => {
+                closed[place] = 0xFFFF;
+                words = row(report, words, fault.number, fault.place);
+            }
         }
     }
     Closed { kept, bytes, words }
 }
 
-// What becomes of the image at `at`, where `valid` are the valid first words and `closed` has the
-// new indexes.
+// The index that the image at `at` has if it stays, where `valid` are the valid first words and
+// `closed` has the new indexes. None: it breaks rule 11, or its directory went.
 pub fn keep_image(
     cache: &[u8],
     t: Tables,
     valid: ValidWords,
     closed: &[u16],
     at: usize,
-) -> KeptImage
+) -> Option<u16>
     requires tables_of { TablesOf cache.now t × (valid ≡ valid_words (directories cache.now)) × (at + 8 ≤ length cache.now) }
     requires closes { Closes cache.now closed.now }
     ensures { KeepsImage cache.now at result }
 {
     if !valid_image(cache, valid, at) {
-        return KeptImage::Goes;
+        return None;
     }
     let index = u16_at(cache, at);
     if t.directories == 0 {
-        return KeptImage::Stays(index);
+        return Some(index);
     }
     let place = index as usize;
     let new = closed[place];
-    if new == 0xFFFF {
-        return KeptImage::Goes;
-    }
-    KeptImage::Stays(new)
+    if new == 0xFFFF { None } else { Some(new) }
 }
