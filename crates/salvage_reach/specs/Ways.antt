@@ -1,8 +1,9 @@
 -- What a field of a chain holds for the walk, and what is known of a chain once it is known how it
 -- goes.
-use Rattle.std.specs.Prelude.{ℕ, ◌+◌, ◌*◌, ◌<◌, ◌≤◌, ◌≡◌, List, eqb, length, if◌then◌else◌}
+use Rattle.std.specs.Prelude.{ℕ, ◌+◌, ◌*◌, ◌<◌, ◌≤◌, ◌≡◌, List, eqb, length, Option, Some, None, if◌then◌else◌}
 use Rattle.format.specs.Layout.{end_value}
 use Rattle.format.specs.Number.{be}
+use Rattle.format.specs.Fault.{if_kept}
 use Rattle.format.specs.Record.{name_fault}
 use Rattle.format.specs.Words.{link, link_field, Inside}
 use Rattle.format.specs.declared.Fault.{Fault}
@@ -42,14 +43,18 @@ pub record RoundOf (s : List ℕ) (k m c : ℕ) : Type 0 where
   pub same : link s k m ≡ link s k (m + c)
   pub least : (i : ℕ) → 0 < i → i < c → link s k m ≡ link s k (m + i) → ⊥
 
+-- the rule that a judgement names, if it names one
+abbrev pub named_rule : Fault → Option Fault
+named_rule v = if_kept v None (Some v)
+
 -- n records are met, and x cuts the chain behind them, or nothing does
 abbrev pub reached_at : ℕ → Fault → Reached
-reached_at n x = record { met = n; cut = x }
+reached_at n x = record { met = n; cut = named_rule x }
 
 -- how far the walk goes, and what cuts it
 pub record Reaches (s : List ℕ) (k : ℕ) (e : Reached) : Type 0 where
   pub met : met s k ≡ e.met
-  pub cut : cut s k ≡ e.cut
+  pub cut : named_rule (cut s k) ≡ e.cut
 
 abbrev pub WayOf : List ℕ → ℕ → Way → Type 0
 WayOf s k (Stops e) = Reaches s k e

@@ -3,10 +3,9 @@
 #![tactic(auto)]
 
 ghost use Rattle.std.specs.Prelude.{◌≡◌, ◌+◌, ◌^◌, ◌≤◌, ◌<◌, length};
-ghost use Rattle.format.specs.Fault.{fault};
 ghost use Rattle.format.specs.Header.{buckets};
 ghost use Rattle.tables.specs.Tables.{TablesOf};
-ghost use Rattle.salvage_reach.specs.Ways.{Turned, WayOf, Reaches, moved, reached_at};
+ghost use Rattle.salvage_reach.specs.Ways.{Turned, WayOf, Reaches, moved};
 
 use bigendian::u32_at;
 use format::Fault;
@@ -39,7 +38,7 @@ pub struct Mark {
 #[derive(Clone, Copy)]
 pub struct Reached {
     pub met: usize,
-    pub cut: Fault,
+    pub cut: Option<Fault>,
 }
 
 // How a chain goes.
@@ -64,11 +63,10 @@ fn look(cache: &[u8], t: Tables, bucket: u32, field: usize) -> Turn
     if cache.len() < record + 12 {
         return Turn::Outside;
     }
-    let fault = judge_name(cache, t, bucket, record, false);
-    if fault.number != 0 {
-        return Turn::Misnamed;
+    match judge_name(cache, t, bucket, record, false) {
+        Ok(()) => Turn::Passes(record),
+        Err(_) => Turn::Misnamed,
     }
-    Turn::Passes(record)
 }
 
 // The mark once `record` is passed at `step`: at the step until which it stays it is moved up to
@@ -85,15 +83,6 @@ fn move_up(mark: Mark, step: usize, record: usize) -> Mark
         }
     } else {
         mark
-    }
-}
-
-fn reached_at(met: usize, number: u32, place: usize) -> Reached
-    ensures { result ≡ reached_at met (fault number place) }
-{
-    Reached {
-        met,
-        cut: Fault { number, place },
     }
 }
 
@@ -115,13 +104,25 @@ fn find_way(cache: &[u8], t: Tables, bucket: u32) -> Way
         let here = look(cache, t, bucket, field);
         match here {
             Turn::Ended => {
-                return Way::Stops(reached_at(step, 0, 0));
+                return Way::Stops(Reached {
+                    met: step,
+                    cut: None,
+                });
             }
             Turn::Outside => {
-                return Way::Stops(reached_at(step, 7, field));
+                return Way::Stops(Reached {
+                    met: step,
+                    cut: Some(Fault {
+                        number: 7,
+                        place: field,
+                    }),
+                });
             }
             Turn::Misnamed => {
-                return Way::Stops(reached_at(step + 1, 0, 0));
+                return Way::Stops(Reached {
+                    met: step + 1,
+                    cut: None,
+                });
             }
             Turn::Passes(record) => {
                 if record == mark.behind {
@@ -150,7 +151,10 @@ pub fn reach(cache: &[u8], t: Tables, bucket: u32) -> Reached
             let place = bucket_field(t, bucket);
             let first = u32_at(cache, place) as usize;
             let before = lead_in(cache, first, round);
-            reached_at(before + round.steps, 12, place)
+            Reached {
+                met: before + round.steps,
+                cut: Some(Fault { number: 12, place }),
+            }
         }
     }
 }

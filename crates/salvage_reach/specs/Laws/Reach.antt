@@ -1,7 +1,7 @@
 -- How far a walk goes, from what the code knows where it stops: the record or the value that ends
 -- the chain, or the round that it runs.
 use Rattle.std.specs.Prelude.{ℕ, suc, ◌+◌, ◌≤◌, ◌<◌, ◌≡◌, refl, List}
-use Rattle.std.proofs.Common.{arith}
+use Rattle.std.proofs.Common.{ap, arith}
 use Rattle.format.specs.Fault.{no_fault, fault}
 use Rattle.format.specs.Layout.{end_value}
 use Rattle.format.specs.Header.{bucket_field}
@@ -12,11 +12,11 @@ use Rattle.format.specs.declared.Fault.{Fault}
 use Rattle.salvage_spec.specs.Meetings.{met, cut}
 use Rattle.salvage_spec.specs.Promise.{Passed, MeetsAt, misnamed, ended, outside, looped}
 use Rattle.salvage_spec.proofs.Laws.Ends.{ends-met}
-use Rattle.salvage_reach.specs.Ways.{PassesAt, PassesBelow, Reaches, reached_at}
+use Rattle.salvage_reach.specs.Ways.{PassesAt, PassesBelow, Reaches, named_rule, reached_at}
 use Rattle.salvage_reach.specs.Laws.Rounds.{round-fresh, passes-met, stop-fresh}
 
 reaches : {s : List ℕ} {k n : ℕ} {x : Fault} → (met s k ≡ n) × (cut s k ≡ x) → Reaches s k (reached_at n x)
-reaches (a, b) = record { met = a; cut = b }
+reaches (a, b) = record { met = a; cut = ap named_rule b }
 
 module _ (s : List ℕ) (k n : ℕ) (below : PassesBelow s k n) where
   left : Passed s k n
