@@ -74,9 +74,8 @@ fn take_in(
     ensures { TakenIn cache.now field number index.new marks.old marks.new result × (result.entries ≤ room) × (result.names ≤ n) × (0 < n → 0 < result.names) }
 {
     let mut at = field;
-    let mut i = 0;
     let mut entries = 0;
-    while i < n {
+    for i in 0..n {
         if entries == room {
             return Block {
                 names: i,
@@ -88,10 +87,9 @@ fn take_in(
         let name = u32_at(cache, record + 4);
         entries = take(cache, name, number + i, index, entries, marks);
         at = record;
-        i += 1;
     }
     Block {
-        names: i,
+        names: n,
         entries,
         field: at,
     }
@@ -112,13 +110,11 @@ fn look_for(
     ensures { (before : List (List ℕ)) → Represents (key_at Ended cache.now) index.now entries before → Adds marks.old marks.new number n (λ i. among (name_along cache.now field i) before) }
 {
     let mut at = field;
-    let mut i = 0;
-    while i < n {
+    for i in 0..n {
         let record = u32_at(cache, at) as usize;
         let name = u32_at(cache, record + 4);
         look(cache, name, number + i, index, entries, marks);
         at = record;
-        i += 1;
     }
 }
 
@@ -162,8 +158,7 @@ pub fn mark_repeated(cache: &[u8], t: Tables, index: &mut [u32], marks: &mut [u3
     ensures { ((i : ℕ) → marked marks.old i ≡ false) → RepeatsMarked cache.now marks.new }
 {
     let mut number = 0;
-    let mut bucket = 0;
-    while bucket < t.buckets {
+    for bucket in 0..t.buckets {
         let n = count(cache, t, bucket);
         chain(
             cache,
@@ -175,6 +170,5 @@ pub fn mark_repeated(cache: &[u8], t: Tables, index: &mut [u32], marks: &mut [u3
             marks,
         );
         number += n;
-        bucket += 1;
     }
 }
