@@ -15,7 +15,7 @@ ghost use Rattle.squeeze_icons.specs.Staying.{Seeking, Staying};
 
 use bigendian::u32_at;
 use in_order::Cursor;
-use keys::{Kind, Ordering, compare};
+use keys::{Kind, compare};
 use marks::is_marked;
 use tables::{Tables, bucket_field};
 
@@ -31,12 +31,7 @@ pub struct Icons {
 fn same(cache: &[u8], a: u32, b: u32) -> bool
     ensures { (result ≡ true → key_at Ended cache.now a ≡ key_at Ended cache.now b) × (result ≡ false → key_at Ended cache.now a ≡ key_at Ended cache.now b → ⊥) }
 {
-    let order = compare(cache, Kind::Ended, a, b);
-    match order {
-        Ordering::Less => false,
-        Ordering::Equal => true,
-        Ordering::Greater => false,
-    }
+    compare(cache, Kind::Ended, a, b).is_eq()
 }
 
 // Whether one of the records before the one at hand has its name, by the chain. `passed` shows that
@@ -111,7 +106,7 @@ pub fn nth(cache: &[u8], t: Tables, repeated: &[u32], n: usize) -> Icons
     ensures { Staying cache.now result × (result.icon ≡ n) }
 {
     let mut icon = first(cache, t, repeated);
-    while icon.icon < n {
+    for _passed in 0..n {
         icon = next(cache, t, repeated, icon);
     }
     icon
