@@ -10,7 +10,7 @@ ghost use Rattle.squeeze_sizes.specs.Counting.{ListAt, Counts, ComesAgain, Count
 
 use bigendian::u32_at;
 use keys::Kind;
-use names::{Spot, find, insert};
+use names::{find, insert};
 use squeeze_icons::{next, nth};
 use tables::Tables;
 
@@ -59,9 +59,8 @@ fn count(
     let entries = counted.entries;
     let bytes = counted.bytes;
     let size = 4 + 8 * u32_at(cache, list as usize) as usize;
-    let spot = find(cache, Kind::Images, index, entries, list);
-    match spot {
-        Spot::Found(e) => {
+    match find(cache, Kind::Images, index, entries, list) {
+        Ok(e) => {
             if until == icon {
                 return Counted {
                     until: icon + 1,
@@ -71,7 +70,7 @@ fn count(
             }
             come_again(again, e, size, counted)
         }
-        Spot::Missing(i) => {
+        Err(i) => {
             if until == icon {
                 if entries < index.len() {
                     insert(index, entries, i, list);
