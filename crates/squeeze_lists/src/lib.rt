@@ -13,7 +13,7 @@ ghost use Rattle.squeeze_lists.specs.Shares.{icon_count, Shares, Sharing, Stores
 use bigendian::{put_u32, u32_at};
 use copying::copy;
 use keys::Kind;
-use names::{Spot, find};
+use names::find;
 use squeeze_icons::{next, nth};
 use squeeze_index::add;
 use tables::Tables;
@@ -93,13 +93,12 @@ fn share(
     if u32_at(out, cell) != 0xFFFF_FFFF {
         return onward(shared, icon);
     }
-    let spot = find(cache, Kind::Images, index, entries, list);
-    match spot {
-        Spot::Found(e) => {
+    match find(cache, Kind::Images, index, entries, list) {
+        Ok(e) => {
             put_u32(out, cell, places[e]);
             onward(shared, icon)
         }
-        Spot::Missing(i) => {
+        Err(i) => {
             if until == icon {
                 if entries < index.len() {
                     return store(cache, index, places, out, icon, list, cell, i, shared);
