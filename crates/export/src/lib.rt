@@ -29,8 +29,7 @@ fn list(
     ensures answer { result ≡ catalogue_of cache.now (length catalogue.old) }
     ensures lent { catalogue.new ≡ catalogue_leaves cache.now catalogue.old }
 {
-    let fault = repeated::in_cache(cache, t, index);
-    if fault.number != 0 {
+    if let Err(fault) = repeated::in_cache(cache, t, index) {
         return refusal(fault.number, fault.place);
     }
     if 65535 < icons {

@@ -66,12 +66,9 @@ fn paths(cache: &[u8], t: Tables, out: &mut [u8], at: usize) -> usize
     ensures out_after { out.new ≡ put out.old at (joined (path_piece cache.now) (directories cache.now)) }
     ensures value { result ≡ at + length (joined (path_piece cache.now) (directories cache.now)) }
 {
-    let n = t.directories;
     let mut place = at;
-    let mut i = 0;
-    while i < n {
+    for i in 0..t.directories {
         place = path(cache, t, i, out, place);
-        i += 1;
     }
     place
 }
@@ -83,11 +80,8 @@ fn icons(cache: &[u8], t: Tables, index: &[u32], n: usize, out: &mut [u8], at: u
     ensures { out.new ≡ put out.old at (joined (icon_piece cache.now index.now) n) }
 {
     let mut place = at;
-    let mut i = 0;
-    while i < n {
-        let record = index[i] as usize;
-        place = icon(cache, record, out, place);
-        i += 1;
+    for offset in &index[..n] {
+        place = icon(cache, *offset as usize, out, place);
     }
 }
 

@@ -1,4 +1,5 @@
-// How many bytes the catalogue of a cache has.
+// How many bytes the catalogue of a cache has. By hand, apart from `putting`: all is measured before
+// the first byte is put.
 ghost use Rattle.std.specs.Prelude.{◌≡◌, ◌+◌, ◌*◌, ◌≤◌, length};
 ghost use Rattle.format.specs.Bytes.{joined};
 ghost use Rattle.format.specs.Header.{directories};
@@ -14,12 +15,9 @@ fn paths(cache: &[u8], t: Tables) -> usize
     requires { Sound cache.now t }
     ensures { (result ≡ length (joined (path_piece cache.now) (directories cache.now))) × (result ≤ 1025 * directories cache.now) }
 {
-    let n = t.directories;
     let mut size = 0;
-    let mut i = 0;
-    while i < n {
+    for i in 0..t.directories {
         size += path_size(cache, t, i);
-        i += 1;
     }
     size
 }
@@ -30,11 +28,8 @@ fn icons(cache: &[u8], t: Tables, index: &[u32], n: usize) -> usize
     ensures { (result ≡ length (joined (icon_piece cache.now index.now) n)) × (result ≤ 8450 * n) }
 {
     let mut size = 0;
-    let mut i = 0;
-    while i < n {
-        let record = index[i] as usize;
-        size += icon_size(cache, record);
-        i += 1;
+    for offset in &index[..n] {
+        size += icon_size(cache, *offset as usize);
     }
     size
 }

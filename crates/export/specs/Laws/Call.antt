@@ -1,18 +1,19 @@
 -- The reader's answer, and the lent bytes after it, by what is refused first.
-use Rattle.std.specs.Prelude.{ℕ, ◌≤◌, ◌<◌, ◌≡◌, length, leb}
+use Rattle.std.specs.Prelude.{ℕ, ◌≤◌, ◌<◌, ◌≡◌, length, leb, Err}
 use Rattle.std.proofs.Math.Path.{sym, ap}
 use Rattle.std.proofs.Common.{◌∙◌, zero-add, arith, le-leb}
 use mathlib.Core.List.{List, [], ◌++◌}
 use Rattle.std.proofs.lemmas.Bool.{lt-leb}
 use Rattle.std.proofs.Math.ListN.{drop}
-use Rattle.format.specs.Fault.{unless}
+use Rattle.format.specs.Fault.{unless, verdict}
 use Rattle.format.specs.Bytes.{put}
 use Rattle.format.specs.Chain.{all_records}
 use Rattle.format.specs.Call.{check}
 use Rattle.format.specs.declared.Fault.{Fault}
 use Rattle.format.specs.declared.CheckAnswer.{CheckAnswer}
 use Rattle.format.proofs.Laws.Demand.{demand3}
-use Rattle.format.proofs.Laws.Faults.{same_number, or_else-first, or_else-next, kept-passes, broken-speaks, unless-kept, unless-broken}
+use Rattle.format.proofs.Laws.Outcomes.{broken-by}
+use Rattle.format.proofs.Laws.Faults.{or_else-first, or_else-next, kept-passes, broken-speaks, unless-kept, unless-broken}
 use Rattle.format.specs.declared.Reading.TheVariants.{Short}
 use Rattle.tables.specs.declared.Tables.{Tables}
 use Rattle.catalogue.specs.Repeats.{repeat_fault}
@@ -45,10 +46,10 @@ module _ (s lent : List ℕ) where
       rw e (refuses (or_else-first _ _ broken) broken)
 
   module _ (kept : (check Short s).number ≡ 0) where
-    pub name-refuses : {v : Fault} → v ≡ repeat_fault [] (record_uses s) → (v.number ≡ 0 → ⊥) → Told s lent (write_is v.number v.place 0) lent
+    pub name-refuses : {v : Fault} → Err v ≡ verdict (repeat_fault [] (record_uses s)) → Told s lent (write_is v.number v.place 0) lent
     unfolding listing_fault
-    name-refuses e some =
-        let repeated : (repeat_fault [] (record_uses s)).number ≡ 0 → ⊥ = λ z. some (same_number e ∙ z) in
+    name-refuses {v} told =
+        let (repeated, e) = broken-by (repeat_fault [] (record_uses s)) tt v told in
         rw e (refuses (or_else-next _ _ kept ∙ or_else-first _ _ repeated) repeated)
 
     module _ (apart : (repeat_fault [] (record_uses s)).number ≡ 0) where

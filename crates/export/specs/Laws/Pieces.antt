@@ -1,10 +1,10 @@
 -- The catalogue that a cache is listed as is made of the pieces of its paths and of its records.
-use Rattle.std.specs.Prelude.{ℕ, zero, suc, ◌+◌, ◌≤◌, ◌<◌, ◌≡◌, refl, length, get_or}
-use Rattle.std.proofs.Common.{sym, ap, ◌∙◌, add-one, arith, length-append}
+use Rattle.std.specs.Prelude.{ℕ, zero, suc, ◌+◌, ◌≤◌, ◌<◌, ◌≡◌, refl, length, take, get_or}
+use Rattle.std.proofs.Common.{sym, ap, ◌∙◌, add-one, arith, length-append, length-take-le}
 use mathlib.Core.List.{List, [], ◌∷◌, ◌++◌, map, flat_map, append-nil}
 use Rattle.std.proofs.Math.Decide.{ℕ_discrete}
 use Rattle.std.proofs.Math.ListN.{get_or-append}
-use Rattle.std.proofs.lemmas.List.{get_or_at}
+use Rattle.std.proofs.lemmas.List.{get_or_at, get_or-take}
 use Rattle.format.specs.Bytes.{bytes, joined, put}
 use Rattle.format.specs.Header.{directories, path_of}
 use Rattle.format.specs.Chain.{all_records}
@@ -70,6 +70,17 @@ module _ {s : List ℕ} {t : Tables} {index : List ℕ} {n : ℕ} (h : Indexed s
       let within : i < length (offset_order s) = omega (arith, ap length h.ordered ∙ firsts-length (λ i. get_or index i 0) n) in
       let (k, m, below, on) = ((order-each-once s acc).each (get_or index i 0)).0 (i, within, here) in
       record { bucket = k; keeps = (on_chain (acc.lower k below).1 on).1 }
+
+  -- as a loop over the first n entries has it
+  module _ (i : ℕ) (l : i < length (take n index)) where
+    pub front-below : i < n
+    front-below = omega (arith, length-take-le n index h.room)
+
+    pub front-entry : get_or (take n index) i 0 ≡ get_or index i 0
+    front-entry = get_or-take n index i 0 front-below
+
+    pub front-kept : Kept s (get_or (take n index) i 0)
+    front-kept = rw front-entry (entry_kept i front-below)
 
 pub pieces-length : (s index : List ℕ) (n : ℕ)
     → length (pieces s index n) ≡ 4 + length (joined (path_piece s) (directories s)) + length (joined (icon_piece s index) n)
