@@ -17,29 +17,36 @@ pub struct Cursor {
     pub record: u32,
 }
 
+// The end value: no further record.
+const END: u32 = 0xFFFF_FFFF;
+
 // The record that a field of the chain of `bucket` names by `record`; where that is the end value,
 // the first record of the buckets behind.
 fn settle(cache: &[u8], t: Tables, number: usize, bucket: u32, record: u32) -> Cursor
     requires { Sound cache.now t × Before cache.now number bucket «record» }
     ensures { At cache.now result × (result.number ≡ number) }
 {
-    let mut k = bucket;
-    let mut named = record;
-    while named == 0xFFFF_FFFF {
-        k += 1;
-        if k == t.buckets {
+    if record != END {
+        return Cursor {
+            number,
+            bucket,
+            record,
+        };
+    }
+    for k in bucket + 1..t.buckets {
+        let named = u32_at(cache, bucket_field(t, k));
+        if named != END {
             return Cursor {
                 number,
                 bucket: k,
                 record: named,
             };
         }
-        named = u32_at(cache, bucket_field(t, k));
     }
     Cursor {
         number,
-        bucket: k,
-        record: named,
+        bucket: t.buckets,
+        record: END,
     }
 }
 
