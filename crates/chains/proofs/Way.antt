@@ -1,14 +1,11 @@
 -- Where a walk stands on a bucket's chain, and what each turn makes of that.
 use Prim.Native.Nat.{ℕ, zero, suc, ◌+◌, ◌-◌, ◌≤◌, ◌<◌}
 use mathlib.Core.Path.{◌≡◌, refl, sym, ap, ◌∙◌}
-use mathlib.Core.Logic.{◌⊎◌}
 use mathlib.Core.List.{List, append-nil}
 use native.Mathlib.Nat.{zero-add}
 use native.Mathlib.Numerals.{add-one}
 use native.Mathlib.Omega.{arith}
 use lib.ListN.{length}
-use denote.Enum.Declared.{tag_of}
-use Rattle.format.specs.contracts.Next.{the_type}
 use Rattle.format.specs.Header.{buckets}
 use Rattle.format.specs.Chain.{follow, chained, chain_of}
 use Rattle.format.specs.Words.{link, link_field, KeepsBelow}
@@ -26,7 +23,7 @@ use Rattle.rounds.specs.Stepping.{ahead, InsideBelow, Turning}
 use Rattle.rounds.specs.Laws.{ahead-field, back-repeats}
 use Rattle.chains.specs.Walk.{walked, stepped_to, Stands}
 use Rattle.chains.specs.Laws.{walked-is}
-use Rattle.chains.proofs.Stops.{chain-stops}
+use Rattle.chains.proofs.Stops.{NoRecord, chain-stops}
 
 -- a walk that begins stands at the bucket's field
 pub stands-first : {s : List ℕ} {t : Tables} {k f : ℕ} → TablesOf s t → k < buckets s → f ≡ bucket_field_of t k → Stands s k f 0
@@ -42,10 +39,10 @@ stands_on {s} {k} {n} keeps e q = rw (q, add-one) (record { field = e; inside = 
 
 module _ {s : List ℕ} {k f o : ℕ} (w : Stands s k f o) where
   -- it stops
-  pub stands-stops : {most : ℕ} → o ≤ most → (l : Next) → (tag_of the_type l ≡ 0) ⊎ (tag_of the_type l ≡ 1) → follow Short s k f ≡ l → chain_of Short s k most ≡ chained (links s k o) l
-  stands-stops {most} few l tag e =
+  pub stands-stops : {most : ℕ} → o ≤ most → (l : Next) → NoRecord l → follow Short s k f ≡ l → chain_of Short s k most ≡ chained (links s k o) l
+  stands-stops {most} few l none e =
       chain-along Short s k o (most - o) {N = most} (omega arith) w.keeps
-      ∙ rw (chain-stops s k (link_field s k o) (most - o) l tag (rw w.field at e), append-nil)
+      ∙ rw (chain-stops s k (link_field s k o) (most - o) l none (rw w.field at e), append-nil)
 
   -- it leads to a record more
   module _ (small : length s ≤ 16777216) {r : ℕ} (e : follow Short s k f ≡ Record r) where

@@ -40,11 +40,10 @@ pub fn follow(cache: &[u8], t: Tables, bucket: u32, field: usize) -> Next
     if cache.len() < record + 12 {
         return Next::Broken(7, field);
     }
-    let fault = judge(cache, t, bucket, record, false);
-    if fault.number != 0 {
-        return Next::Broken(fault.number, fault.place);
+    match judge(cache, t, bucket, record, false) {
+        Ok(()) => Next::Record(record),
+        Err(fault) => Next::Broken(fault.number, fault.place),
     }
-    Next::Record(record)
 }
 
 // How many records are opened to see what comes next: the one that is named, if it lies inside.
@@ -105,7 +104,7 @@ const SHORT: usize = 255;
 pub fn at_first(most: usize) -> usize
     ensures { result ≤ most }
 {
-    if most < SHORT { most } else { SHORT }
+    most.min(SHORT)
 }
 
 // So many times as far as it has come a walk looks ahead. A look that sees no end of a chain costs
@@ -118,22 +117,22 @@ pub fn horizon(opened: usize, most: usize) -> usize
     ensures { Further opened most result }
 {
     let far = opened + SIGHT * opened;
-    if most < far { most } else { far }
+    far.min(most)
 }
 
 // The rest of a walk that has come back to a record, and so has judged all that it will meet, or
 // that may open no more: from `field` on the records are stepped, and opened one by one.
-pub fn go_round(cache: &[u8], mut field: usize, mut opened: usize, most: usize) -> Walked
+pub fn go_round(cache: &[u8], field: usize, opened: usize, most: usize) -> Walked
     requires opened_bound { (opened ≤ most + 1) × (most < length cache.now) × (length cache.now ≤ 2 ^ 24) }
     requires inside_below { InsideBelow cache.now field (most + 1 - opened) }
     ensures { result ≡ stepped_to (most + 1) (rounds.ahead cache.now field (most + 1 - opened)) }
 {
-    while opened <= most {
-        field = u32_at(cache, field) as usize;
-        opened += 1;
+    let all = most + 1;
+    let last = ahead(cache, field, all - opened);
+    Walked {
+        opened: all,
+        after: Next::Record(last),
     }
-    let after = Next::Record(field);
-    Walked { opened, after }
 }
 
 // The whole of a walk past at most `most` records that is judged as far as it must be.
