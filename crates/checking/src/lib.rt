@@ -2,7 +2,7 @@
 // the records and the longest chain.
 #![tactic(auto)]
 
-ghost use Rattle.std.specs.Prelude.{◌≡◌, ◌+◌, ◌≤◌, ◌<◌, max, length};
+ghost use Rattle.std.specs.Prelude.{◌≡◌, ◌+◌, ◌≤◌, ◌<◌, length};
 ghost use Rattle.format.specs.Header.{buckets, bucket_field};
 ghost use Rattle.format.specs.Chain.{chain_of};
 ghost use Rattle.format.specs.Words.{KeepsBelow};
@@ -27,12 +27,6 @@ pub fn refused(number: u32, place: usize, opened: usize) -> CheckAnswer
         opened,
         longest: 0,
     }
-}
-
-fn max(a: usize, b: usize) -> usize
-    ensures { result ≡ max a b }
-{
-    if a < b { b } else { a }
 }
 
 // The answer of a search that finds nothing: `number` at `place`, after `opened` records.
@@ -84,17 +78,15 @@ pub fn check_buckets(cache: &[u8], t: Tables) -> CheckAnswer
 {
     let n = t.buckets;
     let most = cache.len() - 11;
-    let mut bucket = 0;
     let mut opened = 0;
-    let mut longest = 0;
-    while bucket < n {
+    let mut longest: usize = 0;
+    for bucket in 0..n {
         let chain = check_chain(cache, t, bucket, most - opened);
         opened += chain.opened;
         if chain.number != 30 {
             return refused(chain.number, chain.place, opened);
         }
-        longest = max(longest, chain.opened);
-        bucket += 1;
+        longest = longest.max(chain.opened);
     }
     CheckAnswer {
         number: 0,
