@@ -1,7 +1,7 @@
 -- What is known of a record that is kept, and of one that was met.
-use Rattle.std.specs.Prelude.{ℕ, ◌+◌, ◌*◌, ◌≤◌, ◌≡◌, List, ◌∷◌, true, length}
+use Rattle.std.specs.Prelude.{ℕ, ◌+◌, ◌*◌, ◌≤◌, ◌≡◌, List, ◌∷◌, true, length, Result}
 use Rattle.format.specs.Layout.{entries_at}
-use Rattle.format.specs.Fault.{if_kept}
+use Rattle.format.specs.Fault.{if_kept, verdict}
 use Rattle.format.specs.String.{is_whole}
 use Rattle.format.specs.Record.{name_of, name_extent, images_at, images}
 use Rattle.format.specs.declared.Fault.{Fault}
@@ -24,6 +24,6 @@ list_of s r = record { first = entries_at (images_at s r); count = images s r }
 
 -- what became of the record r on bucket k's chain, where the names ts were kept: v; and the index
 -- represents the names that are kept then
-pub record Meets (s : List ℕ) (k r : ℕ) (index : List ℕ) (n : ℕ) (ts : List (List ℕ)) (v : Fault) : Type 0 where
-  pub fate : v ≡ fate_among s k ts r
-  pub known : Represents (key_at Ended s) index (if_kept v (n + 1) n) (if_kept v (name_of s r ∷ ts) ts)
+pub record Meets (s : List ℕ) (k r : ℕ) (index : List ℕ) (n : ℕ) (ts : List (List ℕ)) (v : Result Unit Fault) : Type 0 where
+  pub fate : v ≡ verdict (fate_among s k ts r)
+  pub known : Represents (key_at Ended s) index (if_kept (fate_among s k ts r) (n + 1) n) (if_kept (fate_among s k ts r) (name_of s r ∷ ts) ts)

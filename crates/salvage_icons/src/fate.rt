@@ -14,8 +14,7 @@ use records::{judge_name, valid_image_list};
 use tables::Tables;
 
 // What becomes of `record` on the chain of `bucket`, where the first `n` entries of the index are
-// the names kept on it so far: number 0 where it is kept, and then its name is one of them, else
-// its row.
+// the names kept on it so far: kept, and then its name is one of them, or its row.
 pub fn meet(
     cache: &[u8],
     t: Tables,
@@ -23,30 +22,24 @@ pub fn meet(
     record: usize,
     index: &mut [u32],
     n: usize,
-) -> Fault
+) -> Result<(), Fault>
     requires { TablesOf cache.now t × («record» + 12 ≤ length cache.now) × (n < length index.old) }
     ensures { (ts : List (List ℕ)) → Represents (key_at Ended cache.now) index.old n ts → Meets cache.now bucket «record» index.new n ts result }
 {
-    let fault = judge_name(cache, t, bucket, record, false);
-    if fault.number != 0 {
-        return fault;
-    }
+    judge_name(cache, t, bucket, record, false)?;
     let list = u32_at(cache, record + 8) as usize;
     if !valid_image_list(cache, list) {
-        return Fault {
+        return Err(Fault {
             number: 10,
             place: record + 8,
-        };
+        });
     }
     let name = u32_at(cache, record + 4);
     if met(cache, Kind::Ended, index, n, name) {
-        return Fault {
+        return Err(Fault {
             number: 20,
             place: record + 4,
-        };
+        });
     }
-    Fault {
-        number: 0,
-        place: 0,
-    }
+    Ok(())
 }

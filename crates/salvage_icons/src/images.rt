@@ -11,7 +11,7 @@ ghost use Rattle.salvage_icons.specs.Kept.{Kept, list_of};
 use bigendian::{u16_at, u32_at};
 use filling::{long, row, short};
 use records::{valid_image, valid_words};
-use salvage_paths::{KeptImage, keep_image};
+use salvage_paths::keep_image;
 use tables::Tables;
 
 // Where the images of a record begin, and how many they are.
@@ -60,23 +60,13 @@ pub fn put(
 {
     let valid = valid_words(t.directories);
     let all = list(cache, record);
-    let first = all.first;
-    let m = all.count;
     let mut stay: u16 = 0;
     let mut next = at + 2;
-    let mut i = 0;
-    while i < m {
-        let image = first + 8 * i;
-        let kept = keep_image(cache, t, valid, closed, image);
-        match kept {
-            KeptImage::Stays(index) => {
-                next = put_image(cache, image, index, out, next);
-                stay += 1;
-                i += 1;
-            }
-            KeptImage::Goes => {
-                i += 1;
-            }
+    for i in 0..all.count {
+        let image = all.first + 8 * i;
+        if let Some(index) = keep_image(cache, t, valid, closed, image) {
+            next = put_image(cache, image, index, out, next);
+            stay += 1;
         }
     }
     short(out, at, stay);
@@ -90,17 +80,11 @@ pub fn put_rows(cache: &[u8], t: Tables, record: usize, report: &mut [u32], at: 
 {
     let valid = valid_words(t.directories);
     let all = list(cache, record);
-    let first = all.first;
-    let m = all.count;
     let mut next = at;
-    let mut i = 0;
-    while i < m {
-        let image = first + 8 * i;
-        if valid_image(cache, valid, image) {
-            i += 1;
-        } else {
+    for i in 0..all.count {
+        let image = all.first + 8 * i;
+        if !valid_image(cache, valid, image) {
             next = row(report, next, 11, image);
-            i += 1;
         }
     }
     next
