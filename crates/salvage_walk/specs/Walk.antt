@@ -1,8 +1,7 @@
 -- What a walk has put, from the sums a on to the sums b: for a record, for a chain as far as it
 -- goes, and for all chains. c and d are the lent bytes before and after, w and v the lent words.
-use Rattle.std.specs.Prelude.{ℕ, ◌+◌, ◌*◌, ◌^◌, ◌≤◌, ◌<◌, ◌≡◌, List, [], length}
+use Rattle.std.specs.Prelude.{ℕ, ◌+◌, ◌*◌, ◌^◌, ◌≤◌, ◌<◌, ◌≡◌, List, [], length, Result, Ok, Err}
 use Rattle.format.specs.Bytes.{joined}
-use Rattle.format.specs.Fault.{if_kept}
 use Rattle.format.specs.Header.{buckets}
 use Rattle.format.specs.Words.{link_field}
 use Rattle.format.specs.declared.Fault.{Fault}
@@ -26,9 +25,10 @@ pub record Grows (c d w v xs ys : List ℕ) (n m : ℕ) (a b : Sums) : Type 0 wh
   pub bytes-few : b.bytes ≤ a.bytes + 8450 * n
   pub words-few : b.words ≤ a.words + 2048 * n + m
 
--- for the record r, of which x says what becomes of it
-abbrev pub Adds : List ℕ → ℕ → Fault → List ℕ → List ℕ → List ℕ → List ℕ → Sums → Sums → Type 0
-Adds s r x c d w v a b = Grows c d w v (if_kept x (icon_bytes (icon s r)) []) (if_kept x (image_rows s r) (row_words x)) (if_kept x 1 0) 2 a b
+-- for the record r that is kept, or that goes by the rule x
+abbrev pub Adds : List ℕ → ℕ → Result Unit Fault → List ℕ → List ℕ → List ℕ → List ℕ → Sums → Sums → Type 0
+Adds s r (Ok u) c d w v a b = Grows c d w v (icon_bytes (icon s r)) (image_rows s r) 1 2 a b
+Adds s r (Err x) c d w v a b = Grows c d w v [] (row_words x) 0 2 a b
 
 -- n steps of bucket k's chain are made, and f is the field of the next; the index has the names
 -- that are kept

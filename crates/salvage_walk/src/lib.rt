@@ -2,7 +2,7 @@
 // into a report, each as far as there is room.
 #![tactic(auto)]
 
-ghost use Rattle.std.specs.Prelude.{◌≡◌, ◌+◌, ◌^◌, ◌≤◌, ◌<◌, length};
+ghost use Rattle.std.specs.Prelude.{◌≡◌, ◌+◌, ◌^◌, ◌≤◌, ◌<◌, length, MatchResult};
 ghost use Rattle.format.specs.Header.{buckets};
 ghost use Rattle.tables.specs.Tables.{TablesOf};
 ghost use Rattle.salvage_paths.specs.Closed.{Closes};
@@ -26,36 +26,41 @@ pub struct Sums {
     pub words: usize,
 }
 
-// Puts what there is to put for `record`, of which `fault` says what becomes of it: its icon and
-// the rows of its images, or its own row.
+// Puts what there is to put for `record`, of which `fate` says what becomes of it: its icon and the
+// rows of its images, or its own row.
 fn add(
     cache: &[u8],
     t: Tables,
     closed: &[u16],
     record: usize,
-    fault: Fault,
+    fate: Result<(), Fault>,
     catalogue: &mut [u8],
     report: &mut [u32],
     sums: Sums,
 ) -> Sums
-    requires tables_of { TablesOf cache.now t × Closes cache.now closed.now × (fault.number ≡ 0 → Kept cache.now «record») }
-    requires place_bound { (fault.place < 2 ^ 32) × (sums.icons < 2 ^ 32) × (sums.bytes < 2 ^ 58) × (sums.words < 2 ^ 58) }
-    ensures { Adds cache.now «record» fault catalogue.old catalogue.new report.old report.new sums result }
+    requires tables_of { TablesOf cache.now t × Closes cache.now closed.now }
+    requires told { MatchResult fate (λ _. Kept cache.now «record») (λ fault. fault.place < 2 ^ 32) }
+    requires sums_bound { (sums.icons < 2 ^ 32) × (sums.bytes < 2 ^ 58) × (sums.words < 2 ^ 58) }
+    ensures { Adds cache.now «record» fate catalogue.old catalogue.new report.old report.new sums result }
 {
-    if fault.number == 0 {
-        let bytes = icon::put(cache, t, closed, record, catalogue, sums.bytes);
-        let words = put_rows(cache, t, record, report, sums.words);
-        return Sums {
-            icons: sums.icons + 1,
-            bytes,
-            words,
-        };
-    }
-    let words = row(report, sums.words, fault.number, fault.place);
-    Sums {
-        icons: sums.icons,
-        bytes: sums.bytes,
-        words,
+    match fate {
+        Ok(()) => {
+            let bytes = icon::put(cache, t, closed, record, catalogue, sums.bytes);
+            let words = put_rows(cache, t, record, report, sums.words);
+            Sums {
+                icons: sums.icons + 1,
+                bytes,
+                words,
+            }
+        }
+        Err(fault) => {
+            let words = row(report, sums.words, fault.number, fault.place);
+            Sums {
+                icons: sums.icons,
+                bytes: sums.bytes,
+                words,
+            }
+        }
     }
 }
 
@@ -76,24 +81,20 @@ fn chain(
     ensures { Walks cache.now bucket catalogue.old catalogue.new report.old report.new sums result }
 {
     let reached = reach(cache, t, bucket);
-    let met = reached.met;
-    let cut = reached.cut;
     let mut field = bucket_field(t, bucket);
     let mut so_far = sums;
-    let mut step: usize = 0;
-    while step < met {
+    for _step in 0..reached.met {
         if 65535 < so_far.icons {
             return so_far;
         }
         let record = u32_at(cache, field) as usize;
-        let fault = meet(cache, t, bucket, record, index, so_far.icons - sums.icons);
-        so_far = add(cache, t, closed, record, fault, catalogue, report, so_far);
+        let fate = meet(cache, t, bucket, record, index, so_far.icons - sums.icons);
+        so_far = add(cache, t, closed, record, fate, catalogue, report, so_far);
         field = record;
-        step += 1;
     }
-    if cut.number == 0 {
+    let Some(cut) = reached.cut else {
         return so_far;
-    }
+    };
     let words = row(report, so_far.words, cut.number, cut.place);
     Sums {
         icons: so_far.icons,
@@ -116,15 +117,12 @@ pub fn chains(
     requires icons_value { (sums.icons ≡ 0) × (sums.bytes < 2 ^ 32) × (sums.words < 2 ^ 32) }
     ensures { WalksAll cache.now catalogue.old catalogue.new report.old report.new sums result }
 {
-    let buckets = t.buckets;
     let mut so_far = sums;
-    let mut bucket = 0;
-    while bucket < buckets {
+    for bucket in 0..t.buckets {
         if 65535 < so_far.icons {
             return so_far;
         }
         so_far = chain(cache, t, closed, bucket, index, catalogue, report, so_far);
-        bucket += 1;
     }
     so_far
 }

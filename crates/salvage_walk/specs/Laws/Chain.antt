@@ -1,15 +1,17 @@
 -- The walk of one chain, step by step.
-use Rattle.std.specs.Prelude.{ℕ, zero, suc, ◌+◌, ◌-◌, ◌*◌, ◌^◌, ◌≤◌, ◌<◌, ◌≡◌, List, [], ◌∷◌, length}
+use Rattle.std.specs.Prelude.{ℕ, zero, suc, ◌+◌, ◌-◌, ◌*◌, ◌^◌, ◌≤◌, ◌<◌, ◌≡◌, List, [], ◌∷◌, length, Result, Ok, Err, MatchResult}
 use Rattle.std.proofs.Math.Path.{refl}
-use Rattle.std.proofs.Common.{sym, ap, ◌∙◌, length-append}
+use Rattle.std.proofs.Common.{ap, ◌∙◌, length-append}
 use Rattle.std.proofs.Math.Numerals.{add-one}
 use native.Mathlib.Omega.{arith}
+use Rattle.std.proofs.Math.Decide.{ℕ_discrete}
 use Rattle.format.specs.Number.{be}
 use Rattle.format.specs.Bytes.{joined}
-use Rattle.format.specs.Fault.{if_kept}
+use Rattle.format.specs.Fault.{if_kept, verdict}
 use Rattle.format.specs.Header.{bucket_field}
 use Rattle.format.specs.Words.{link, link_field}
 use Rattle.format.specs.declared.Fault.{Fault}
+use Rattle.format.proofs.Laws.Outcomes.{outcome-kept, outcome-broken}
 use Rattle.format.proofs.Laws.Along.{reads-link}
 use Rattle.catalogue.specs.Catalogue.{Icon}
 use Rattle.keys.specs.Key.{key_at}
@@ -25,7 +27,7 @@ use Rattle.salvage_spec.proofs.Laws.Lists.{few-joined, one-or-none, joined-le}
 use Rattle.salvage_spec.proofs.Laws.Meets.{met-below, met-few}
 use Rattle.salvage_walk.specs.declared.Sums.{Sums}
 use Rattle.salvage_walk.specs.Walk.{Adds, Steps}
-use Rattle.salvage_walk.specs.Laws.Grows.{grows_none, grows-next}
+use Rattle.salvage_walk.specs.Laws.Grows.{grows_none, grows-next, adds-by}
 
 pub steps_first : (s : List ℕ) (k : ℕ) (c w index : List ℕ) {f : ℕ} (a : Sums) → f ≡ bucket_field s k → Steps s k c c w w index f 0 a a
 unfolding joined kept_names link_field
@@ -46,6 +48,13 @@ count_by v n = go v.number
     go : (x : ℕ) → elim x as (λ y. ℕ) [ zero ↦ n + 1 | suc y ↦ n ] ≡ n + elim x as (λ y. ℕ) [ zero ↦ 1 | suc y ↦ 0 ]
     go zero = refl
     go (suc x) = omega arith
+
+-- what is handed on of a judgement tells what it does
+told-by : (x : Fault) {P : Type 0} {m : ℕ} → (x.number ≡ 0 → P) → x.place < m → MatchResult (verdict x) (λ _. P) (λ (v : Fault). v.place < m)
+told-by x {P} {m} kept near = elim (ℕ_discrete x.number 0) [
+  | yes h ↦ let e : verdict x ≡ Ok tt = outcome-kept x tt h in rw e (kept h)
+  | no n ↦ let e : verdict x ≡ Err x = outcome-broken x tt n in rw e near
+]
 
 -- at most one a step
 icons-few : (s : List ℕ) (k n : ℕ) → length (icons_below s k n) ≤ n
@@ -74,19 +83,22 @@ module _ {s : List ℕ} {k : ℕ} {c d w v index : List ℕ} {f n : ℕ} {a b : 
     pub steps-inside : {r : ℕ} → r ≡ link s k n → r + 12 ≤ length s
     steps-inside e = rw e (met-below s k n l).inside
 
-    pub steps-kept : {r : ℕ} {x : Fault} → r ≡ link s k n → x ≡ fate_among s k (kept_names s k n) r → x.number ≡ 0 → Kept s r
-    steps-kept {r} e judged kept = kept-tells s k r (kept_names s k n) (steps-inside e) (sym (ap (λ (y : Fault). y.number) judged) ∙ kept)
+    -- what is told of the record met
+    pub steps-told : {r m : ℕ} {x : Result Unit Fault} → r ≡ link s k n → x ≡ verdict (fate_among s k (kept_names s k n) r)
+        → (fate_among s k (kept_names s k n) r).place < m → MatchResult x (λ _. Kept s r) (λ (v : Fault). v.place < m)
+    steps-told {r} e judged near =
+        rw judged (told-by (fate_among s k (kept_names s k n) r) (λ kept. kept-tells s k r (kept_names s k n) (steps-inside e) kept) near)
 
-    pub steps_next : {r : ℕ} {x : Fault} {d' v' index' : List ℕ} {b' : Sums} → r ≡ link s k n → Meets s k r index' (b.icons - a.icons) (kept_names s k n) x → Adds s r x d d' v v' b b' → Steps s k c d' w v' index' r (n + 1) a b'
+    pub steps_next : {r : ℕ} {x : Result Unit Fault} {d' v' index' : List ℕ} {b' : Sums} → r ≡ link s k n → Meets s k r index' (b.icons - a.icons) (kept_names s k n) x → Adds s r x d d' v v' b b' → Steps s k c d' w v' index' r (n + 1) a b'
     unfolding link_field kept_names fate
-    steps_next {x = x} next meets adds =
-        let same : x ≡ fate s k n = meets.fate ∙ rw next in
+    steps_next {r} next meets adds =
+        let put = adds-by s r (fate_among s k (kept_names s k n) r) (rw meets.fate at adds) in
         let twice : 2 * n + 2 ≡ 2 * (n + 1) = omega arith in
-        let grows = grows-next (meeting_piece s k) (meeting_rows s k) n h.grows refl refl (rw (same, next) at adds) in
+        let grows = grows-next (meeting_piece s k) (meeting_rows s k) n h.grows refl refl (rw next at put) in
         rw add-one (record {
           within = l;
           field = next;
-          names = rw (one_more s k n, ← count_by (fate s k n) (length (icons_below s k n)), ← count) (rw (same, next) at meets.known);
+          names = rw (one_more s k n, ← count_by (fate s k n) (length (icons_below s k n)), ← count) (rw next at meets.known);
           grows = rw (one_more s k n) (rw (twice, add-one) at grows);
         })
 

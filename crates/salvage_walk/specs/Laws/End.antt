@@ -1,7 +1,8 @@
 -- The end of the walk of one chain.
-use Rattle.std.specs.Prelude.{ℕ, ◌+◌, ◌*◌, ◌^◌, ◌≤◌, ◌<◌, ◌≡◌, List, ◌++◌, length}
-use Rattle.std.proofs.Common.{ap, ◌∙◌, append-nil, arith}
+use Rattle.std.specs.Prelude.{ℕ, ◌*◌, ◌^◌, ◌≤◌, ◌<◌, ◌≡◌, List, ◌++◌, length, Option, Some, None}
+use Rattle.std.proofs.Common.{sym, ap, ◌∙◌, append-nil, arith}
 use Rattle.std.proofs.Math.Nat.{le_antisymm}
+use Rattle.std.proofs.Math.Decide.{ℕ_discrete}
 use Rattle.format.specs.Bytes.{joined}
 use Rattle.format.specs.declared.Fault.{Fault}
 use Rattle.format.proofs.Laws.Faults.{kept-takes, broken-takes}
@@ -12,6 +13,7 @@ use Rattle.salvage_spec.specs.Salvage.{chain_icons}
 use Rattle.salvage_spec.specs.Call.{row_words}
 use Rattle.salvage_spec.specs.Pieces.{row_if, meeting_rows, chain_piece, chain_rows}
 use Rattle.salvage_spec.proofs.Laws.Meets.{met-few}
+use Rattle.salvage_reach.specs.Ways.{named_rule}
 use Rattle.salvage_walk.specs.declared.Sums.{Sums}
 use Rattle.salvage_walk.specs.Walk.{Grows, Steps, Walks}
 use Rattle.salvage_walk.specs.Laws.Chain.{steps-many}
@@ -48,6 +50,17 @@ module _ {s : List ℕ} {k : ℕ} {c d w v index : List ℕ} {f n : ℕ} {a b : 
         bytes-few = g.bytes-few;
         words-few = omega (arith, g.words-few, put.next, few);
       }))
+
+-- what cuts a chain, as the walk says it
+module _ (v : Fault) {o : Option Fault} (e : named_rule v ≡ o) where
+  pub cut_none : ((f : Fault) → o ≡ Some f → ⊥) → v.number ≡ 0
+  cut_none none = elim (ℕ_discrete v.number 0) [ yes h ↦ h | no n ↦ absurd (none v (sym e ∙ broken-takes v None (Some v) n)) ]
+
+  pub cut_some : (f : Fault) → o ≡ Some f → (v ≡ f) × (f.number ≡ 0 → ⊥)
+  cut_some f q = elim (ℕ_discrete v.number 0) [
+    | yes h ↦ let other : ◌≡◌ {A = Option Fault} None (Some f) = sym (kept-takes v None (Some v) h) ∙ e ∙ q in cc
+    | no n ↦ let same : ◌≡◌ {A = Option Fault} (Some v) (Some f) = sym (broken-takes v None (Some v) n) ∙ e ∙ q in let is : v ≡ f = cc in (is, rw is at n)
+  ]
 
 -- too many icons
 pub walks-many : {s : List ℕ} {k : ℕ} {c d w v index : List ℕ} {f n : ℕ} {a b : Sums} → Steps s k c d w v index f n a b → 65535 < b.icons → Walks s k c d w v a b

@@ -1,9 +1,12 @@
 -- What is put grows part by part.
-use Rattle.std.specs.Prelude.{ℕ, ◌+◌, ◌≤◌, ◌≡◌, refl, List, [], ◌++◌}
+use Rattle.std.specs.Prelude.{ℕ, ◌+◌, ◌≤◌, ◌≡◌, refl, List, [], ◌++◌, Ok, Err}
 use Rattle.std.proofs.Common.{add-one, arith}
 use Rattle.format.specs.Bytes.{joined}
+use Rattle.std.proofs.Math.Decide.{ℕ_discrete}
+use Rattle.format.specs.Fault.{if_kept, verdict}
 use Rattle.format.specs.declared.Fault.{Fault}
-use Rattle.format.proofs.Laws.Faults.{broken-takes}
+use Rattle.format.proofs.Laws.Faults.{kept-takes, broken-takes}
+use Rattle.format.proofs.Laws.Outcomes.{outcome-kept, outcome-broken}
 use Rattle.catalogue.specs.Catalogue.{icon_bytes}
 use Rattle.filling.specs.Puts.{Puts}
 use Rattle.filling.specs.Laws.{puts_none, puts-more}
@@ -37,19 +40,29 @@ module _ (f g : ℕ → List ℕ) (i : ℕ) where
 pub grows-wider : {c d w v xs ys : List ℕ} {n m m' : ℕ} {a b : Sums} → m ≤ m' → Grows c d w v xs ys n m a b → Grows c d w v xs ys n m' a b
 grows-wider l g = record { icons = g.icons; bytes = g.bytes; words = g.words; bytes-few = g.bytes-few; words-few = omega (arith, g.words-few) }
 
--- what is put for a record: its icon and the rows of its images, or its own row
-module _ (s : List ℕ) (r : ℕ) (x : Fault) {c w v : List ℕ} {a : Sums} where
-  pub adds-kept : {d : List ℕ} {p q : ℕ} → x.number ≡ 0 → Puts c d a.bytes (icon_bytes (icon s r)) p × (p ≤ a.bytes + 8450)
-      → Puts w v a.words (image_rows s r) q × (q ≤ a.words + 2048) → Adds s r x c d w v a (record { icons = a.icons + 1; bytes = p; words = q })
-  adds-kept e (bytes, few) (words, few') = rw e (record { icons = refl; bytes = bytes; words = words; bytes-few = omega arith; words-few = omega arith })
+-- what is put for a record of which x is judged: its icon and the rows of its images, or its own row
+pub adds-by : (s : List ℕ) (r : ℕ) (x : Fault) {c d w v : List ℕ} {a b : Sums} → Adds s r (verdict x) c d w v a b
+    → Grows c d w v (if_kept x (icon_bytes (icon s r)) []) (if_kept x (image_rows s r) (row_words x)) (if_kept x 1 0) 2 a b
+adds-by s r x adds = elim (ℕ_discrete x.number 0) [
+  | yes e ↦
+      let kept : verdict x ≡ Ok tt = outcome-kept x tt e in
+      rw (kept-takes x (icon_bytes (icon s r)) [] e, kept-takes x (image_rows s r) (row_words x) e, kept-takes {A = ℕ} x 1 0 e) (rw kept at adds)
+  | no n ↦
+      let broken : verdict x ≡ Err x = outcome-broken x tt n in
+      rw (broken-takes x (icon_bytes (icon s r)) [] n, broken-takes x (image_rows s r) (row_words x) n, broken-takes {A = ℕ} x 1 0 n) (rw broken at adds)
+]
 
-  pub adds-gone : {q : ℕ} → (x.number ≡ 0 → ⊥) → Puts w v a.words (row_words x) q
-      → Adds s r x c c w v a (record { icons = a.icons; bytes = a.bytes; words = q })
-  adds-gone bad words =
-      rw (broken-takes x (icon_bytes (icon s r)) [] bad, broken-takes x (image_rows s r) (row_words x) bad, broken-takes {A = ℕ} x 1 0 bad) (record {
-        icons = omega arith;
-        bytes = puts_none c _;
-        words = words;
-        bytes-few = omega arith;
-        words-few = omega (arith, words.next);
-      })
+module _ (s : List ℕ) (r : ℕ) {c w v : List ℕ} {a : Sums} where
+  pub adds-kept : {d : List ℕ} {p q : ℕ} → Puts c d a.bytes (icon_bytes (icon s r)) p × (p ≤ a.bytes + 8450)
+      → Puts w v a.words (image_rows s r) q × (q ≤ a.words + 2048) → Adds s r (Ok tt) c d w v a (record { icons = a.icons + 1; bytes = p; words = q })
+  adds-kept (bytes, few) (words, few') = record { icons = refl; bytes = bytes; words = words; bytes-few = omega arith; words-few = omega arith }
+
+  pub adds-gone : {x : Fault} {q : ℕ} → Puts w v a.words (row_words x) q
+      → Adds s r (Err x) c c w v a (record { icons = a.icons; bytes = a.bytes; words = q })
+  adds-gone words = record {
+    icons = omega arith;
+    bytes = puts_none c _;
+    words = words;
+    bytes-few = omega arith;
+    words-few = omega (arith, words.next);
+  }
