@@ -6,8 +6,6 @@ use mathlib.Core.List.{List}
 use mathlib.Core.Bool.{false}
 use native.Mathlib.Omega.{arith}
 use lib.ListN.{length}
-use denote.Enum.Declared.{tag_of}
-use Rattle.format.specs.contracts.Next.{the_type}
 use Rattle.format.specs.Header.{bucket_field}
 use Rattle.format.specs.Record.{name_of}
 use Rattle.format.specs.Chain.{most_records}
@@ -19,6 +17,7 @@ use Rattle.format.proofs.Laws.Search.{search-unnamed, search-lasts}
 use Rattle.format.specs.declared.Next.TheVariants.{Record}
 use Rattle.rounds.specs.Stepping.{InsideBelow, Turning}
 use Rattle.chains.specs.Walk.{Stands, Further}
+use Rattle.chains.proofs.Stops.{NoRecord}
 use Rattle.chains.proofs.Way.{stands-stops, turning-repeats}
 use Rattle.chains.proofs.Back.{all_alike, turned-keeps, turned-inside}
 use Rattle.search.specs.Seek.{SeeksTo}
@@ -45,9 +44,9 @@ searching-first w h = record {
 
 module _ {s name : List ℕ} {k f o stop far : ℕ} (w : Searching s name k f o stop far) {a : Sought} (h : SeeksTo s name k stop a) where
   -- a stretch that meets an end
-  pub searching-stops : (tag_of the_type a.next ≡ 0) ⊎ (tag_of the_type a.next ≡ 1) → unnamed (bucket_field s k) a.next a.opened ≡ search_bucket s name k
-  searching-stops tag =
-      let known = stands-stops h.stands {most = most_records s} (omega (arith, h.few, w.few)) a.next tag (sym h.next) in
+  pub searching-stops : NoRecord a.next → unnamed (bucket_field s k) a.next a.opened ≡ search_bucket s name k
+  searching-stops no_record =
+      let known = stands-stops h.stands {most = most_records s} (omega (arith, h.few, w.few)) a.next no_record (sym h.next) in
       ap (unnamed (bucket_field s k) a.next) h.opened ∙ sym (search-unnamed s name k h.passed known h.none)
 
   -- one that meets none, and not the name

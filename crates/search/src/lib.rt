@@ -59,12 +59,13 @@ fn seek(cache: &[u8], t: Tables, bucket: u32, field: usize, name: &[u8]) -> Seen
         return nameless(Next::Broken(7, field));
     }
     let bears = bears(cache, record, name);
-    let fault = judge(cache, t, bucket, record, bears);
-    if fault.number != 0 {
-        return nameless(Next::Broken(fault.number, fault.place));
+    match judge(cache, t, bucket, record, bears) {
+        Ok(()) => Seen {
+            next: Next::Record(record),
+            bears,
+        },
+        Err(fault) => nameless(Next::Broken(fault.number, fault.place)),
     }
-    let next = Next::Record(record);
-    Seen { next, bears }
 }
 
 // The search for `name`, a name of `bucket`, from `field` on, where it stands after `opened`
