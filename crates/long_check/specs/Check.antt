@@ -1,11 +1,11 @@
 -- What the short check's answer says of the long one's.
-use Rattle.std.specs.Prelude.{ℕ, ◌+◌, ◌-◌, ◌≤◌, ◌<◌, ◌≡◌, List, eqb, if◌then◌else◌}
+use Rattle.std.specs.Prelude.{ℕ, ◌-◌, ◌<◌, ◌≡◌, List, eqb, if◌then◌else◌}
 use Rattle.format.specs.Chain.{itself}
 use Rattle.format.specs.Call.{check}
-use Rattle.format.specs.Words.{TablesKept, Region, sum}
+use Rattle.format.specs.Words.{TablesKept}
 use Rattle.format.specs.declared.CheckAnswer.{CheckAnswer}
 use Rattle.format.specs.declared.Reading.TheVariants.{Short, Long}
-use Rattle.long_check.specs.Scan.{SoundTo}
+use Rattle.long_check.specs.Scan.{SoundTo, KeepLong}
 
 -- of the records opened by a check that answers x, if there are any, how many break a rule
 abbrev pub unsound : ℕ → ℕ
@@ -19,4 +19,4 @@ sound_records a = a.opened - unsound a.number
 pub record Decided (s : List ℕ) (sound : ℕ) : Type 0 where
   pub to : SoundTo s sound
   pub tables-kept : 0 < sound → TablesKept s
-  pub same : ((len : ℕ → ℕ) (k n : ℕ) → Region Short s len k n → sum len k + n ≤ sound → Region Long s len k n) → check Long s ≡ check Short s
+  pub same : KeepLong s sound → check Long s ≡ check Short s

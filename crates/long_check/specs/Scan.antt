@@ -1,12 +1,10 @@
 -- What a second walk over the sound records of a cache says of the long check.
 use Rattle.std.specs.Prelude.{ℕ, ◌+◌, ◌≤◌, ◌<◌, ◌≡◌, List, length}
 use Rattle.format.specs.Layout.{end_value}
-use Rattle.format.specs.Fault.{no_fault}
 use Rattle.format.specs.Header.{buckets}
 use Rattle.format.specs.Chain.{itself}
 use Rattle.format.specs.Words.{Breaks, Lengths, Region, link, link_field, sum}
 use Rattle.format.specs.declared.Reading.TheVariants.{Short, Long}
-use Rattle.long_check.specs.declared.Scanned.{Scanned}
 
 -- the first `sound` records in the check's order keep the short rules
 pub record SoundTo (s : List ℕ) (sound : ℕ) : Type 0 where
@@ -38,10 +36,6 @@ pub record BreaksLong (s : List ℕ) (x p passed : ℕ) : Type 0 where
   pub real : bucket < buckets s
   pub opened : passed ≡ sum len bucket + count + itself x
 
-abbrev pub unbroken : ℕ → Scanned
-unbroken passed = record { fault = no_fault; passed = passed }
-
--- the answer: a record that breaks one of the rules 22 to 24, or none among them
-pub record Scans (s : List ℕ) (sound : ℕ) (a : Scanned) : Type 0 where
-  pub broken : (a.fault.number ≡ 0 → ⊥) → BreaksLong s a.fault.number a.fault.place a.passed
-  pub kept : a.fault.number ≡ 0 → (len : ℕ → ℕ) (k n : ℕ) → Region Short s len k n → sum len k + n ≤ sound → Region Long s len k n
+-- the first `sound` records keep the long rules
+abbrev pub KeepLong : List ℕ → ℕ → Type 0
+KeepLong s sound = (len : ℕ → ℕ) (k n : ℕ) → Region Short s len k n → sum len k + n ≤ sound → Region Long s len k n

@@ -3,15 +3,15 @@
 // nothing of the long reading.
 #![tactic(auto)]
 
-ghost use Rattle.std.specs.Prelude.{◌≡◌, ◌+◌, ◌*◌, ◌≤◌, length};
+ghost use Rattle.std.specs.Prelude.{◌≡◌, ◌+◌, ◌*◌, ◌≤◌, length, MatchResult};
+ghost use Rattle.format.specs.Fault.{verdict};
 ghost use Rattle.format.specs.Layout.{entries_at};
 ghost use Rattle.format.specs.Record.{images_at, images};
 ghost use Rattle.format.specs.Notes.{notes_fault};
 ghost use Rattle.format.specs.Call as calls;
 ghost use Rattle.format.specs.declared.Reading.TheVariants.{Short, Long};
 ghost use Rattle.tables.specs.Tables.{TablesOf};
-ghost use Rattle.long_check.specs.Scan.{SoundTo, Scans};
-ghost use Rattle.long_check.specs.Scan as definition;
+ghost use Rattle.long_check.specs.Scan.{SoundTo, BreaksLong, KeepLong};
 ghost use Rattle.long_check.specs.Check.{unsound, sound_records};
 
 use bigendian::u32_at;
@@ -19,45 +19,32 @@ use checking::refused;
 use format::{CheckAnswer, Fault};
 use tables::{Tables, bucket_field};
 
-// What was broken first, and how many records were gone over.
+// What is broken first, and how many records were gone over up to there.
 #[derive(Clone, Copy)]
-struct Scanned {
+struct Broken {
     fault: Fault,
     passed: usize,
 }
 
 // Rules 22 to 24 behind the images of `record`.
-fn behind_record(cache: &[u8], record: usize) -> Fault
+fn behind_record(cache: &[u8], record: usize) -> Result<(), Fault>
     requires record_in_bounds { «record» + 12 ≤ length cache.now }
     requires record_in_bounds_2 { images_at cache.now «record» + 4 + 8 * images cache.now «record» ≤ length cache.now }
-    ensures { result ≡ notes_fault (images cache.now «record») cache.now (entries_at (images_at cache.now «record»)) }
+    ensures { result ≡ verdict (notes_fault (images cache.now «record») cache.now (entries_at (images_at cache.now «record»))) }
 {
     let at = u32_at(cache, record + 8) as usize;
     let count = u32_at(cache, at);
     notes::behind(cache, count, at + 4)
 }
 
-// The answer where no record that was gone over breaks a rule.
-fn unbroken(passed: usize) -> Scanned
-    ensures { result ≡ definition.unbroken passed }
-{
-    Scanned {
-        fault: Fault {
-            number: 0,
-            place: 0,
-        },
-        passed,
-    }
-}
-
 // The first of `sound` records in the check's order, which keep the other rules, that breaks one of
 // the rules 22 to 24. One record of the chain is remembered, and a later one takes its place as
 // soon as twice as many are gone over (Brent's way): a chain that comes back to it has no record
 // that was not judged.
-fn scan(cache: &[u8], t: Tables, sound: usize) -> Scanned
+fn scan(cache: &[u8], t: Tables, sound: usize) -> Result<(), Broken>
     requires tables_of { TablesOf cache.now t }
     requires sound_to { SoundTo cache.now sound }
-    ensures { Scans cache.now sound result }
+    ensures { MatchResult result (λ _. KeepLong cache.now sound) (λ broken. BreaksLong cache.now broken.fault.number broken.fault.place broken.passed) }
 {
     let mut bucket = 0;
     let mut field = bucket_field(t, 0);
@@ -72,13 +59,12 @@ fn scan(cache: &[u8], t: Tables, sound: usize) -> Scanned
             mark = 0xFFFF_FFFF;
         } else {
             if record == mark {
-                return unbroken(passed);
+                return Ok(());
             }
             field = record as usize;
             passed += 1;
-            let fault = behind_record(cache, field);
-            if fault.number != 0 {
-                return Scanned { fault, passed };
+            if let Err(fault) = behind_record(cache, field) {
+                return Err(Broken { fault, passed });
             }
             if limit <= passed {
                 mark = record;
@@ -86,7 +72,7 @@ fn scan(cache: &[u8], t: Tables, sound: usize) -> Scanned
             }
         }
     }
-    unbroken(passed)
+    Ok(())
 }
 
 // Of the records that the short check opened where it answers `number`, how many break a rule: the
@@ -94,25 +80,17 @@ fn scan(cache: &[u8], t: Tables, sound: usize) -> Scanned
 fn unsound(number: u32) -> usize
     ensures { result ≡ unsound number }
 {
-    if number == 0 {
-        return 0;
+    match number {
+        0 | 7 | 12 => 0,
+        _ => 1,
     }
-    if number == 12 {
-        return 0;
-    }
-    if number == 7 { 0 } else { 1 }
 }
 
 // How many keep the rules.
 fn sound_records(short: CheckAnswer) -> usize
     ensures { result ≡ sound_records short }
 {
-    let broken = unsound(short.number);
-    if short.opened < broken {
-        0
-    } else {
-        short.opened - broken
-    }
+    short.opened.saturating_sub(unsound(short.number))
 }
 
 // The long check, from the short one's answer.
@@ -125,10 +103,8 @@ pub fn check(cache: &[u8], short: CheckAnswer) -> CheckAnswer
         return short;
     }
     let t = tables::read(cache);
-    let scanned = scan(cache, t, sound);
-    let fault = scanned.fault;
-    if fault.number == 0 {
-        return short;
+    match scan(cache, t, sound) {
+        Ok(()) => short,
+        Err(broken) => refused(broken.fault.number, broken.fault.place, broken.passed),
     }
-    refused(fault.number, fault.place, scanned.passed)
 }
