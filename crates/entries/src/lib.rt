@@ -117,8 +117,7 @@ fn valid_name_text(catalogue: &[u8], at: usize) -> bool
         return false;
     }
     let end = text + length;
-    let name = strings::asked(&catalogue[text..end]);
-    name.allowed
+    strings::asked(&catalogue[text..end]).is_some()
 }
 
 // Whether the count of images at `at` is there, and not too large.
