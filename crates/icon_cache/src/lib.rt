@@ -3,15 +3,17 @@
 #![tactic(auto)]
 
 ghost use Rattle.std.specs.Prelude.{◌≡◌, length};
-ghost use Rattle.format.specs.Answer.{part_is};
-ghost use Rattle.format.specs.Call.{lookup_words, directory_part, directory_path};
+ghost use Rattle.format.specs.Fault.{outcome};
+ghost use Rattle.format.specs.Call.{lookup_words, directory_fault, directory_part, directory_path};
 ghost use Rattle.format.specs.Call as calls;
 ghost use Rattle.format.specs.Demand.{CheckDemand, LookupKept, LongestDemand, OpensWithin};
 ghost use Rattle.format.specs.declared.Reading.TheVariants.{Short, Long};
+ghost use Rattle.tables.specs.Tables.{part_of};
 
 use checking::{check_buckets, refused, unfound};
 use format::{CheckAnswer, DirectoryAnswer, DirectoryPart, Fault, Found, LookupAnswer, Reading};
 use records::with_images;
+use tables::PathPart;
 
 // The check by the short reading. It is a call of its own so that it carries nothing of the long
 // one.
@@ -20,14 +22,12 @@ pub fn check_short(cache: &[u8]) -> CheckAnswer
     ensures demand { CheckDemand Short cache.now result }
     ensures longest { LongestDemand Short cache.now result }
 {
-    let header = tables::header(cache);
-    if header.number != 0 {
-        return refused(header.number, header.place, 0);
+    if let Err(fault) = tables::header(cache) {
+        return refused(fault.number, fault.place, 0);
     }
     let t = tables::read(cache);
-    let paths = tables::paths(cache, t);
-    if paths.number != 0 {
-        return refused(paths.number, paths.place, 0);
+    if let Err(fault) = tables::paths(cache, t) {
+        return refused(fault.number, fault.place, 0);
     }
     check_buckets(cache, t)
 }
@@ -59,16 +59,14 @@ pub fn check(cache: &[u8], reading: Reading) -> CheckAnswer
 pub fn find(cache: &[u8], name: &[u8]) -> Found
     ensures { result ≡ calls.find cache.now name.now }
 {
-    let query = strings::asked(name);
-    if !query.allowed {
+    let Some(hash) = strings::asked(name) else {
         return unfound(13, 0, 0);
-    }
-    let header = tables::header(cache);
-    if header.number != 0 {
-        return unfound(header.number, header.place, 0);
+    };
+    if let Err(fault) = tables::header(cache) {
+        return unfound(fault.number, fault.place, 0);
     }
     let t = tables::read(cache);
-    let bucket = query.hash % t.buckets;
+    let bucket = hash % t.buckets;
     search::search(cache, t, bucket, name)
 }
 
@@ -93,41 +91,39 @@ pub fn lookup(cache: &[u8], name: &[u8], words: &mut [u32]) -> LookupAnswer
     with_images(cache, found.place, found.opened, words)
 }
 
-// A refusal of a directory index.
-fn no_part(fault: Fault) -> DirectoryPart
-    ensures { result ≡ part_is fault.number fault.place 0 0 }
+// Where the path of directory `index` stands: first the header is judged, then the index, then the
+// path.
+fn path_part(cache: &[u8], index: usize) -> Result<PathPart, Fault>
+    ensures { result ≡ outcome (directory_fault cache.now index) (part_of cache.now index) }
 {
-    DirectoryPart {
-        number: fault.number,
-        place: fault.place,
-        start: 0,
-        length: 0,
+    tables::header(cache)?;
+    let t = tables::read(cache);
+    if t.directories as usize <= index {
+        return Err(Fault {
+            number: 15,
+            place: 0,
+        });
     }
+    tables::path(cache, t, index as u32)
 }
 
 // Whether there is a directory `index` with a path that keeps the rules, and where the path stands.
 pub fn directory_part(cache: &[u8], index: usize) -> DirectoryPart
     ensures { result ≡ directory_part cache.now index }
 {
-    let header = tables::header(cache);
-    if header.number != 0 {
-        return no_part(header);
-    }
-    let t = tables::read(cache);
-    if t.directories as usize <= index {
-        let none = Fault {
-            number: 15,
+    match path_part(cache, index) {
+        Ok(path) => DirectoryPart {
+            number: 0,
             place: 0,
-        };
-        return no_part(none);
-    }
-    let path = tables::path(cache, t, index as u32);
-    let fault = path.fault;
-    DirectoryPart {
-        number: fault.number,
-        place: fault.place,
-        start: path.start,
-        length: path.length,
+            start: path.start,
+            length: path.length,
+        },
+        Err(fault) => DirectoryPart {
+            number: fault.number,
+            place: fault.place,
+            start: 0,
+            length: 0,
+        },
     }
 }
 
