@@ -124,10 +124,9 @@ impl Position {
         ensures { result ≡ definition.onward (buckets cache.now - self.bucket) cache.now self self.bucket self.count }
     {
         let n = t.buckets;
-        let mut bucket = self.bucket as u32;
         let mut passed = self.count;
         let mut walked = chains::at_first(passed);
-        while bucket < n {
+        for bucket in self.bucket as u32..n {
             let chain = chains::walk(cache, t, bucket, walked);
             let after = chain.after;
             match after {
@@ -142,7 +141,6 @@ impl Position {
                 }
                 Next::End => {}
             }
-            bucket += 1;
             passed = 0;
             walked = 0;
         }
@@ -153,9 +151,8 @@ impl Position {
     pub fn next(self, cache: &[u8]) -> Step
         ensures { result ≡ step cache.now self }
     {
-        let header = tables::header(cache);
-        if header.number != 0 {
-            return self.stay(header.number, header.place);
+        if let Err(fault) = tables::header(cache) {
+            return self.stay(fault.number, fault.place);
         }
         let t = tables::read(cache);
         if t.buckets as usize <= self.bucket {
