@@ -43,11 +43,11 @@ pub fn icon_size(cache: &[u8], record: usize) -> usize
     3 + parts.length + 8 * parts.count
 }
 
-// How many bytes it has for the path of directory `i`.
+// How many bytes it has for the path of directory `i`, which keeps the rules.
 pub fn path_size(cache: &[u8], t: Tables, i: u32) -> usize
     requires { Sound cache.now t × (i < directories cache.now) }
     ensures { (result ≡ length (path_piece cache.now i)) × (result ≤ 1025) }
 {
-    let path = tables::path(cache, t, i);
+    let path = tables::path(cache, t, i).unwrap();
     2 + path.length
 }

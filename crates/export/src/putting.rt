@@ -31,14 +31,14 @@ fn name(cache: &[u8], start: usize, size: u8, out: &mut [u8], place: usize)
     copy(cache, start, size as usize, out, place + 1);
 }
 
-// Puts the path of directory `i` into `out` at `place`: where it ends.
+// Puts the path of directory `i`, which keeps the rules, into `out` at `place`: where it ends.
 fn path(cache: &[u8], t: Tables, i: u32, out: &mut [u8], place: usize) -> usize
     requires sound { Sound cache.now t × (i < directories cache.now) }
     requires i_in_bounds { place + length (path_piece cache.now i) ≤ length out.old }
     ensures out_after { out.new ≡ put out.old place (path_piece cache.now i) }
     ensures value { result ≡ place + length (path_piece cache.now i) }
 {
-    let path = tables::path(cache, t, i);
+    let path = tables::path(cache, t, i).unwrap();
     let size = path.length;
     counted(cache, path.start, size, size as u16, out, place);
     place + 2 + size
