@@ -1,6 +1,6 @@
 -- `passes::head::clear` meets its contract: each byte of the end value is 255.
 use Rattle.std.proofs.Common.{◌≡◌, ℕ, zero, suc, ◌+◌, ◌-◌, ◌*◌, ◌≤◌, List, ◌++◌, length, take, drop, refl, sym, ap, ◌∙◌, arith, append_assoc, length-drop, length-take-le, rules}
-use Rattle.std.proofs.Math.ListN.{replicate}
+use Rattle.std.proofs.Math.ListN.{replicate, length-replicate}
 use Rattle.std.proofs.Math.Seq.{drop-drop}
 use Rattle.std.proofs.lemmas.List.{replicate-append-replicate}
 use borrow.Rule.Slice.PartMut.{put_mid}
@@ -22,13 +22,15 @@ written-to s a k xs e =
     ∙ sym (append_assoc (take a s) xs (drop (a + k) s))
     ∙ ap (λ n. take a s ++ xs ++ drop (a + n) s) (sym e)
 
+cleared : (s : List ℕ) (a k n : ℕ) (xs : List ℕ) → k ≡ 4 * n → a + k ≤ length s → xs ≡ replicate (length (take k (drop a s))) 255
+    → put_mid a k s xs ≡ put s a (joined (λ _. bytes 4 end_value) n)
+cleared s a k n xs size within filled =
+    let inside : k ≤ length (drop a s) = omega (arith, length-drop a s) in
+    let part : length (take k (drop a s)) ≡ k = length-take-le k (drop a s) inside in
+    let wide : length xs ≡ k = ap length filled ∙ length-replicate (length (take k (drop a s))) 255 ∙ part in
+    written-to s a k xs wide ∙ ap (put s a) (filled ∙ ap (λ m. replicate m 255) (part ∙ size) ∙ fields n)
+
 pub returns : goal.returns
 returns c =
     let a = c.args in
-    let s = a.out.now in
-    let k = a.at + 4 * a.n - a.at in
-    let inside : k ≤ length (drop a.at s) = omega (arith, length-drop a.at s) in
-    let part : length (take k (drop a.at s)) ≡ k = length-take-le k (drop a.at s) inside in
-    let wide : length (take k (drop a.at s)) ≡ 4 * a.n = omega (arith, part) in
-    let filled : c.fill.new.self ≡ joined (λ _. bytes 4 end_value) a.n = c.fill.ensures.after (search rules) ∙ ap (λ m. replicate m 255) wide ∙ fields a.n in
-    written-to s a.at k c.fill.new.self (c.fill.ensures.len ∙ part) ∙ ap (put s a.at) filled
+    cleared a.out.now a.at (a.at + 4 * a.n - a.at) a.n c.fill.new.self (omega arith) (omega arith) (c.fill.ensures.after (search rules))
