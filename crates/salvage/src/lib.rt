@@ -105,8 +105,7 @@ pub fn salvage(cache: &[u8], catalogue: &mut [u8], report: &mut [u32]) -> Salvag
     ensures bytes { catalogue.new ≡ calls.bytes_left_of cache.now catalogue.old report.old }
     ensures words { report.new ≡ calls.words_left_of cache.now catalogue.old report.old }
 {
-    let fault = tables::header(cache);
-    if fault.number != 0 {
+    if let Err(fault) = tables::header(cache) {
         return refusal(fault.number, fault.place);
     }
     let t = tables::read(cache);
