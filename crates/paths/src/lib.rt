@@ -46,8 +46,7 @@ pub fn read_path(part: &[u8]) -> Path
 {
     let mut valid = true;
     let mut start = 0;
-    for (i, byte) in part.iter().enumerate() {
-        let byte = *byte;
+    for (i, &byte) in part.iter().enumerate() {
         if byte == 0 {
             let valid_segments = valid_to(part, valid, start, i);
             return Path {

@@ -1,3 +1,2 @@
-pub mod Tags
 pub mod Whole
 pub mod Wrapping

@@ -93,8 +93,7 @@ pub fn read_name(part: &[u8]) -> Name
     ensures hash { result.hash ≡ hash (take 255 (string part.now)) }
 {
     let mut hash = 0;
-    for (i, byte) in part.iter().enumerate() {
-        let byte = *byte;
+    for (i, &byte) in part.iter().enumerate() {
         if byte == 0 {
             return Name {
                 extent: ended(i),
