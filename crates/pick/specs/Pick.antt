@@ -8,20 +8,17 @@ use Rattle.format.specs.Header.{directories}
 use Rattle.format.specs.Record.{images_at, images}
 use Rattle.format.specs.Call.{find}
 use Rattle.format.specs.declared.Fault.{Fault}
+use Rattle.pick.specs.declared.Kind.{Kind}
+use Rattle.pick.specs.declared.Kind.TheVariants.{Fixed, Scalable, Threshold}
 use Rattle.pick.specs.declared.Sizes.{Sizes}
 use Rattle.pick.specs.declared.PickAnswer.{PickAnswer}
 
--- the types of directories, by their names in source document 002
-pub data Kind : Type 0 where
-  fixed : Kind
-  scalable : Kind
-  threshold : Kind
-
--- the type that a word names; one above 2 names none, and is refused before a size is compared
+-- the type that a word names, by its name in source document 002; one above 2 names none, and is
+-- refused before a size is compared
 abbrev pub kind : ℕ → Kind
-kind zero = fixed
-kind (suc zero) = scalable
-kind (suc (suc n)) = threshold
+kind zero = Fixed
+kind (suc zero) = Scalable
+kind (suc (suc n)) = Threshold
 
 abbrev pub known_kind : ℕ → Bool
 known_kind n = leb n 2
@@ -35,7 +32,7 @@ abbrev pub sizes_of : List ℕ → ℕ → Sizes
 sizes_of w i =
     let at = words_each * i in
     record {
-      kind = get_or w at 0;
+      kind = kind (get_or w at 0);
       size = get_or w (at + 1) 0;
       scale = get_or w (at + 2) 0;
       min = get_or w (at + 3) 0;
@@ -49,13 +46,13 @@ distance a b = (a - b) + (b - a)
 
 -- whether an image of a directory serves a size, by the directory's type
 abbrev pub serves_size : Kind → Sizes → ℕ → Bool
-serves_size fixed d size = eqb size d.size
-serves_size scalable d size = leb d.min size && leb size d.max
-serves_size threshold d size = leb (distance size d.size) d.threshold
+serves_size Fixed d size = eqb size d.size
+serves_size Scalable d size = leb d.min size && leb size d.max
+serves_size Threshold d size = leb (distance size d.size) d.threshold
 
 -- the same with the scale
 unfoldable pub serves : Sizes → ℕ → ℕ → Bool
-serves d size scale = eqb d.scale scale && serves_size (kind d.kind) d size
+serves d size scale = eqb d.scale scale && serves_size d.kind d size
 
 -- whether the image at p fits: 0xFFFF is no directory
 unfoldable pub fits : List ℕ → ℕ → ℕ → List ℕ → ℕ → Bool

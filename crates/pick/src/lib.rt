@@ -4,6 +4,7 @@
 
 ghost use Rattle.std.specs.Prelude.{◌≡◌, true, ◌+◌, ◌*◌, ◌≤◌, length};
 ghost use Rattle.format.specs.Number.{be};
+ghost use Rattle.format.specs.Fault.{verdict};
 ghost use Rattle.format.specs.Header.{header_fault, directories};
 ghost use Rattle.format.specs.Record.{valid_index, images_fault};
 ghost use Rattle.pick.specs.Pick.{sizes_of, kinds_fault, words_fault, first_image};
@@ -20,11 +21,32 @@ pub struct PickAnswer {
     pub place: usize,
 }
 
-// What is lent of one directory: its type (0 Fixed, 1 Scalable, 2 Threshold), then its keys Size,
-// Scale, MinSize, MaxSize and Threshold.
+// The types of directories.
+#[derive(Clone, Copy)]
+enum Kind {
+    Fixed,
+    Scalable,
+    Threshold,
+}
+
+impl Kind {
+    // The type that a word names: 0 Fixed, 1 Scalable, 2 Threshold. One above 2 is refused before.
+    fn new(word: u32) -> Kind
+        ensures { result ≡ definition.kind word }
+    {
+        match word {
+            0 => Kind::Fixed,
+            1 => Kind::Scalable,
+            _ => Kind::Threshold,
+        }
+    }
+}
+
+// What is lent of one directory: its type, then its keys Size, Scale, MinSize, MaxSize and
+// Threshold.
 #[derive(Clone, Copy)]
 struct Sizes {
-    kind: u32,
+    kind: Kind,
     size: u32,
     scale: u32,
     min: u32,
@@ -41,14 +63,12 @@ fn distance(a: u32, b: u32) -> u32
 
 // Whether an image of a directory serves this size, whatever the scale.
 fn serves_size(d: Sizes, size: u32) -> bool
-    ensures { result ≡ definition.serves_size (definition.kind d.kind) d size }
+    ensures { result ≡ definition.serves_size d.kind d size }
 {
-    if d.kind == 0 {
-        size == d.size
-    } else if d.kind == 1 {
-        d.min <= size && size <= d.max
-    } else {
-        distance(size, d.size) <= d.threshold
+    match d.kind {
+        Kind::Fixed => size == d.size,
+        Kind::Scalable => d.min <= size && size <= d.max,
+        Kind::Threshold => distance(size, d.size) <= d.threshold,
     }
 }
 
@@ -66,7 +86,7 @@ fn sizes_of(words: &[u32], i: usize) -> Sizes
 {
     let at = 6 * i;
     Sizes {
-        kind: words[at],
+        kind: Kind::new(words[at]),
         size: words[at + 1],
         scale: words[at + 2],
         min: words[at + 3],
@@ -96,53 +116,44 @@ fn first_image(cache: &[u8], at: usize, m: u32, size: u32, scale: u32, words: &[
     requires words_len { length words.now ≡ 6 * directories cache.now }
     ensures { result ≡ first_image (definition.fits words.now size scale cache.now) m at }
 {
-    let mut left = m;
-    let mut here = at;
-    while 0 < left {
+    for i in 0..m as usize {
+        let here = at + 8 * i;
         if fits(cache, here, size, scale, words) {
             return here;
         }
-        here += 8;
-        left -= 1;
     }
     0
 }
 
 // 32 at the first type above 2, of `n` directories.
-fn judge_kinds(words: &[u32], n: u32) -> Fault
+fn judge_kinds(words: &[u32], n: u32) -> Result<(), Fault>
     requires { length words.now ≡ 6 * n }
-    ensures { result ≡ kinds_fault n words.now }
+    ensures { result ≡ verdict (kinds_fault n words.now) }
 {
-    let mut left = n;
-    let mut at = 0;
-    while 0 < left {
+    for i in 0..n as usize {
+        let at = 6 * i;
         if 2 < words[at] {
-            return Fault {
+            return Err(Fault {
                 number: 32,
                 place: at,
-            };
+            });
         }
-        at += 6;
-        left -= 1;
     }
-    Fault {
-        number: 0,
-        place: 0,
-    }
+    Ok(())
 }
 
 // 31 unless there are six words for each directory, then 32.
-fn judge_words(cache: &[u8], words: &[u32]) -> Fault
+fn judge_words(cache: &[u8], words: &[u32]) -> Result<(), Fault>
     requires { (header_fault cache.now).number ≡ 0 }
-    ensures { result ≡ words_fault cache.now words.now }
+    ensures { result ≡ verdict (words_fault cache.now words.now) }
 {
     let t = tables::read(cache);
     let n = t.directories;
     if words.len() != 6 * n as usize {
-        return Fault {
+        return Err(Fault {
             number: 31,
             place: 0,
-        };
+        });
     }
     judge_kinds(words, n)
 }
@@ -161,11 +172,10 @@ pub fn pick(cache: &[u8], name: &[u8], size: u32, scale: u32, directories: &[u32
             place: found.place,
         };
     }
-    let judged = judge_words(cache, directories);
-    if judged.number != 0 {
+    if let Err(fault) = judge_words(cache, directories) {
         return PickAnswer {
-            number: judged.number,
-            place: judged.place,
+            number: fault.number,
+            place: fault.place,
         };
     }
     let at = u32_at(cache, found.place + 8) as usize;
