@@ -58,7 +58,7 @@ struct Sizes {
 fn distance(a: u32, b: u32) -> u32
     ensures { result ≡ definition.distance a b }
 {
-    if a < b { b - a } else { a - b }
+    a.abs_diff(b)
 }
 
 // Whether an image of a directory serves this size, whatever the scale.
