@@ -8,7 +8,7 @@ ghost use Rattle.squeeze_paths.specs.Pathed.{Pathed};
 
 use filling::{long, text};
 use keys::Kind;
-use names::{Spot, find};
+use names::find;
 use squeeze_index::add;
 use tables::Tables;
 
@@ -35,16 +35,16 @@ fn path(
     requires field_bound { (field < 2 ^ 62) × (texts.end < 2 ^ 31) }
     ensures { (lent : List ℕ) (table at : ℕ) → Pathed cache.now lent out.old index.old places.old table at i texts → field ≡ table + 4 + 4 * i → Pathed cache.now lent out.new index.new places.new table at (i + 1) result }
 {
-    let path = tables::path(cache, t, i);
+    // The path of an accepted cache breaks no rule.
+    let path = tables::path(cache, t, i).unwrap();
     let start = path.start as u32;
     let n = texts.entries;
-    let spot = find(cache, Kind::Ended, index, n, start);
-    match spot {
-        Spot::Found(e) => {
+    match find(cache, Kind::Ended, index, n, start) {
+        Ok(e) => {
             long(out, field, places[e]);
             texts
         }
-        Spot::Missing(e) => {
+        Err(e) => {
             let end = texts.end;
             add(index, places, n, e, start, end as u32);
             long(out, field, end as u32);
@@ -75,12 +75,10 @@ pub fn paths(
         entries: 0,
         end: at,
     };
-    let mut field = long(out, table, n);
-    let mut i = 0;
-    while i < n {
+    let first = long(out, table, n);
+    for i in 0..n {
+        let field = first + 4 * i as usize;
         texts = path(cache, t, i, index, places, out, field, texts);
-        field += 4;
-        i += 1;
     }
     texts
 }
