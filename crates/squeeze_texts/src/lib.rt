@@ -12,7 +12,7 @@ ghost use Rattle.squeeze_texts.specs.Named.{NameAt, PathsKnown, Stores, Measures
 
 use bigendian::u32_at;
 use keys::Kind;
-use names::{Spot, find};
+use names::find;
 use squeeze_icons::{first, next};
 use squeeze_paths::Texts;
 use strings::name_length;
@@ -38,13 +38,12 @@ pub fn store(
     ensures few { result.end ≤ end + 256 }
     ensures stored { (at i : ℕ) → PathsKnown cache.now index.now places.now entries at → NameAt cache.now i name → Stores cache.now at i end result }
 {
-    let spot = find(cache, Kind::Ended, index, entries, name);
-    match spot {
-        Spot::Found(e) => Stored {
+    match find(cache, Kind::Ended, index, entries, name) {
+        Ok(e) => Stored {
             place: places[e] as usize,
             end,
         },
-        Spot::Missing(_) => Stored {
+        Err(_) => Stored {
             place: end,
             end: end + (name_length(cache, name as usize) + 1),
         },
