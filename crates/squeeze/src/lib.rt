@@ -141,8 +141,7 @@ pub fn squeeze(cache: &[u8], squeezed: &mut [u8]) -> WriteAnswer
     if 4096 < t.buckets {
         return refusal(25, 4);
     }
-    let fault = image_data(cache, t);
-    if fault.number != 0 {
+    if let Err(fault) = image_data(cache, t) {
         return refusal(fault.number, fault.place);
     }
     let mut index: [u32; 65536] = [0; 65536];
