@@ -136,7 +136,7 @@ pub fn spells(part: &[u8], name: &[u8]) -> bool
     ensures { result ≡ spells_name part.now name.now }
 {
     let end = name.len();
-    part.len() > end && part.starts_with(name) && part[end] == 0
+    part.len() > end && part[end] == 0 && part.starts_with(name)
 }
 
 // Whether a text of `size` bytes has 1 to a limit of them and none is zero, by what the text is as
