@@ -1,5 +1,5 @@
-// How many bytes the catalogue of a cache has. By hand, apart from `putting`: all is measured before
-// the first byte is put.
+// How many bytes the catalogue of a cache has. Apart from `putting`, since all is measured before the
+// first byte is put.
 ghost use Rattle.std.specs.Prelude.{◌≡◌, ◌+◌, ◌*◌, ◌≤◌, length};
 ghost use Rattle.format.specs.Bytes.{joined};
 ghost use Rattle.format.specs.Header.{directories};

@@ -50,8 +50,8 @@ fn paths(catalogue: &[u8], n: usize, at: usize) -> Result<usize, Fault>
 }
 
 // `m` icons from `at` on, in a catalogue with `n` directories: where they end.
-// By hand, as `paths`: one loop for both would take the judgement of an entry as a closure, and say
-// its contract once more.
+// A loop like that of `paths`: one for both would take the judgement of an entry as a closure, and
+// say its contract once more.
 fn icons(catalogue: &[u8], n: usize, m: usize, at: usize) -> Result<usize, Fault>
     requires { at ≤ length catalogue.now }
     ensures { result ≡ row_judged (icon_fields_fault n catalogue.now) (icon_end catalogue.now) m at }
@@ -115,7 +115,8 @@ pub fn icon_end(catalogue: &[u8], at: usize) -> usize
     count + 2 + 8 * u16_at(catalogue, count) as usize
 }
 
-// Refuses the first of `m` icons from `at` on whose name was used before. The index has room for them.
+// Refuses the first of `m` icons from `at` on whose name was used before. The index has room for
+// them.
 fn repeated(catalogue: &[u8], m: usize, at: usize, index: &mut [u32]) -> Result<(), Fault>
     requires { Listed catalogue.now m at × (m ≤ length index.old) }
     ensures { result ≡ verdict (repeat_from [] catalogue.now m at) }

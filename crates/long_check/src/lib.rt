@@ -51,7 +51,7 @@ fn scan(cache: &[u8], t: Tables, sound: usize) -> Result<(), Broken>
     let mut passed = 0;
     let mut mark = 0xFFFF_FFFF;
     let mut limit = 1;
-    // By hand: the walk goes on from chain to chain, and along each by its fields.
+    // No `for`: the walk goes on from chain to chain, and along each by its fields.
     while passed < sound {
         let record = u32_at(cache, field);
         if record == 0xFFFF_FFFF {

@@ -62,11 +62,7 @@ pub fn valid_entries(cache: &[u8], at: usize, size: usize) -> bool
     requires { (at < 2 ^ 32) × (size ≤ 8) }
     ensures { result ≡ valid_entries cache.now at size }
 {
-    if list_inside(cache, at, size) {
-        u32_at(cache, at) <= 1024
-    } else {
-        false
-    }
+    list_inside(cache, at, size) && u32_at(cache, at) <= 1024
 }
 
 // Rule 22 on the rectangle that `field` names.

@@ -62,7 +62,7 @@ pub fn lists(catalogue: &[u8], first: usize, icons: usize, out: &mut [u8], at: u
 }
 
 // Puts the names of all icons into `out` at `at`.
-// By hand, as `lists`: one loop for both would take what puts an entry as a closure, and say its
+// A loop like that of `lists`: one for both would take what puts an entry as a closure, and say its
 // contract once more.
 pub fn names(catalogue: &[u8], first: usize, icons: usize, out: &mut [u8], at: usize)
     requires by_index { (m : ℕ) × Judged catalogue.now m icons first }

@@ -49,6 +49,9 @@ module _ (s : List ℕ) (f : ℕ) where
           back = ap (ahead s f) whole ∙ sym m.here ∙ e ∙ m.behind;
         }
 
+  pub no-round : {most : ℕ} → Runs s f most (record { start = 0; steps = 0 })
+  no-round = record { within = omega arith; inside = λ i g. absurd (omega arith); back = refl }
+
 -- the way from the field of step m of bucket k's chain on
 pub ahead-field : (s : List ℕ) (k m n : ℕ) → ahead s (link_field s k m) n ≡ link_field s k (m + n)
 unfolding ahead link_field

@@ -47,6 +47,7 @@ pub fn image_data(cache: &[u8], t: Tables) -> Result<(), Fault>
     ensures { result ≡ verdict (data_fault cache.now (all_records Short cache.now)) }
 {
     let mut cursor = first(cache, t);
+    // Behind the last one there is the end value.
     while cursor.record != 0xFFFF_FFFF {
         in_record(cache, cursor.record as usize)?;
         cursor = next(cache, t, cursor);

@@ -72,6 +72,7 @@ fn seek(cache: &[u8], t: Tables, repeated: &[u32], icon: usize, cursor: Cursor) 
     ensures { Staying cache.now result × (result.icon ≡ icon) }
 {
     let mut at = cursor;
+    // Behind the last one there is the end value.
     while at.record != 0xFFFF_FFFF {
         if stays(cache, t, repeated, at) {
             return Icons { icon, at };

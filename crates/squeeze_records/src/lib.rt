@@ -96,6 +96,7 @@ pub fn records(
     let mut item = first(cache, t, repeated);
     let mut end = texts.end;
     let mut last = 0xFFFF_FFFF;
+    // Behind the last one there is the end value.
     while item.at.record != 0xFFFF_FFFF {
         let record = item.at.record as usize;
         let bucket = item.at.bucket;

@@ -109,6 +109,7 @@ fn block(
         entries: 0,
         bytes,
     };
+    // Behind the last one there is the end value.
     while icon.at.record != 0xFFFF_FFFF {
         let record = icon.at.record as usize;
         let list = u32_at(cache, record + 8);

@@ -73,6 +73,7 @@ pub fn measure(
 {
     let mut icon = first(cache, t, repeated);
     let mut end = texts.end;
+    // Behind the last one there is the end value.
     while icon.at.record != 0xFFFF_FFFF {
         let record = icon.at.record as usize;
         let name = u32_at(cache, record + 4);

@@ -1,6 +1,6 @@
 -- Where a key stands between the entries of an index, as a search among them finds it.
-use Rattle.std.specs.Prelude.{ℕ, ◌≤◌, ◌<◌, ◌≡◌, List, length, take, get_or, Result, Ok, Err}
-use Rattle.std.proofs.Common.{refl, ap, arith}
+use Rattle.std.specs.Prelude.{ℕ, ◌+◌, ◌≤◌, ◌<◌, ◌≡◌, List, length, take, get_or, Result, Ok, Err}
+use Rattle.std.proofs.Common.{refl, sym, ap, ◌∙◌, arith}
 use Rattle.std.proofs.Math.Decide.{dec_lt}
 use Rattle.std.specs.declared.cmp.Ordering.{Ordering}
 use Rattle.std.specs.declared.cmp.Ordering.TheVariants.{Less, Equal, Greater}
@@ -53,6 +53,35 @@ module _ (key : ℕ → List ℕ) (index : List ℕ) (n p : ℕ) (fits : n ≤ l
           behind = λ k l. rw (there k (omega (arith, h, length-take-le n index fits))) at (sides.0 k 0 (omega arith) l);
           ahead = λ k l g. greater-less _ _ (rw (there k g) at (sides.1 k 0 l (omega (arith, length-take-le n index fits))));
         }
+
+-- how it comes to stand there by halving: at first between none and all, and each comparison with an
+-- entry in the middle settles all on one side of it
+module _ (key : ℕ → List ℕ) (index : List ℕ) (n : ℕ) (t : List ℕ) where
+  pub between-all : Between key index n t 0 n
+  between-all = record { behind = λ k h. absurd (omega arith); ahead = λ k h g. absurd (omega arith) }
+
+  -- entry m compares with t as o says
+  module _ (rising : Rising key index n) {low high : ℕ} (between : Between key index n t low high) (m : ℕ) (inside : m < n) {o : Ordering}
+      (is : o ≡ order (entry key index m) t) where
+    pub after-middle : o ≡ Less → Between key index n t (m + 1) high
+    after-middle less = record { behind = λ k h. go k h (dec_lt k m); ahead = between.ahead }
+      where
+        e : order (entry key index m) t ≡ Less
+        e = sym is ∙ less
+
+        go : (k : ℕ) → k < m + 1 → Dec (k < m) → order (entry key index k) t ≡ Less
+        go k h (yes l) = less-than-a-lesser _ _ _ (rising k m l inside) e
+        go k h (no l) = let same : k ≡ m = omega arith in rw same e
+
+    pub before-middle : o ≡ Greater → Between key index n t low m
+    before-middle greater = record { behind = between.behind; ahead = λ k h g. go k h g (dec_lt m k) }
+      where
+        back : order t (entry key index m) ≡ Less
+        back = greater-less _ _ (sym is ∙ greater)
+
+        go : (k : ℕ) → m ≤ k → k < n → Dec (m < k) → order t (entry key index k) ≡ Less
+        go k h g (yes l) = less-than-a-lesser _ _ _ back (rising m k l g)
+        go k h g (no l) = let same : k ≡ m = omega arith in rw same back
 
 -- a key that stands between two neighbours is that of no entry
 pub not-held : {key : ℕ → List ℕ} {index : List ℕ} {n i : ℕ} {t : List ℕ} → Between key index n t i i → Holds key index n t → ⊥
