@@ -35,8 +35,7 @@ fn onward(shared: Shared, icon: usize) -> Shared
     if shared.until == icon {
         return Shared {
             until: icon + 1,
-            entries: shared.entries,
-            end: shared.end,
+            ..shared
         };
     }
     shared

@@ -34,9 +34,8 @@ fn come_again(again: &mut [u32], e: usize, size: usize, counted: Counted) -> Cou
     }
     again[e] = 1;
     Counted {
-        until: counted.until,
-        entries: counted.entries,
         bytes: counted.bytes - size,
+        ..counted
     }
 }
 
@@ -64,8 +63,7 @@ fn count(
             if until == icon {
                 return Counted {
                     until: icon + 1,
-                    entries,
-                    bytes,
+                    ..counted
                 };
             }
             come_again(again, e, size, counted)
