@@ -53,7 +53,7 @@ fn take_in(cache: &[u8], field: usize, n: usize, index: &mut [u32]) -> usize
 }
 
 // How many of the `n` records from `field` on come before the first whose name one of the first
-// `entries` of the index has.
+// `entries` of the index has. Apart from `take_in`: that changes the index, this only reads it.
 fn look_for(cache: &[u8], field: usize, n: usize, index: &[u32], entries: usize) -> usize
     requires { InsideAlong cache.now field n × (entries ≤ length index.now) }
     ensures { (before : List (List ℕ)) → Represents (key_at Ended cache.now) index.now entries before → Looked (name_along cache.now field) before n result }

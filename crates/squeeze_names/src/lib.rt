@@ -96,7 +96,7 @@ fn take_in(
 }
 
 // Marks those of the `n` records from `field` on whose name one of the first `entries` of the index
-// has.
+// has. Apart from `take_in`: that changes the index, this only reads it.
 fn look_for(
     cache: &[u8],
     field: usize,
