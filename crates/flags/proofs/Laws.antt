@@ -1,15 +1,16 @@
 -- What follows from the definitions: the same flags are set in either numbering, so there and back
 -- is the identity. What holds of the numbers 0 to 15 alone is computed at each of them (`agree`).
-use Rattle.std.specs.Prelude.{ℕ, zero, suc, ◌+◌, ◌≤◌, ◌<◌, ◌≡◌, refl, List, Bool, true, false, ◌&&◌, eqb, leb}
+use Rattle.std.specs.Prelude.{ℕ, zero, suc, ◌+◌, ◌≤◌, ◌<◌, ◌≡◌, refl, List, Bool, true, false, ◌&&◌, eqb, leb, Option, None, Some, MatchOption, IfErr}
 use Rattle.std.proofs.Common.{ap, arith, below_more, le-leb, leb-true, eqb-true}
 use Rattle.std.proofs.Math.Bool.{and-eq-true_iff}
 use Rattle.format.specs.Number.{be}
-use Rattle.format.specs.Fault.{unless}
+use Rattle.std.specs.Option.{ok_or}
+use Rattle.format.specs.Fault.{fault, unless, outcome, if_kept}
 use Rattle.format.specs.Header.{directories}
 use Rattle.format.specs.Record.{valid_index, valid_image}
 use Rattle.flags.specs.declared.Numbering.{Numbering}
 use Rattle.flags.specs.declared.Numbering.TheVariants.{Freedesktop, Gtk}
-use Rattle.flags.specs.Flags.{Flag, bitmap, xpm, svg, icon_file, flag_bit, renumbered, numbering, known, valid_flags, flags_is, answer, flags_in, ThereAndBack}
+use Rattle.flags.specs.Flags.{Flag, bitmap, xpm, svg, icon_file, flag_bit, renumbered, numbering, known, valid_flags, flags_is, flags_answer, answer, flags_in, ThereAndBack}
 
 -- two functions agree on each number below n, as a test that antt computes
 abbrev pub agree_below : ℕ → (ℕ → ℕ) → (ℕ → ℕ) → Bool
@@ -69,6 +70,25 @@ answer-valid x j k small from to = rw (le-leb x 15 small, le-leb j 1 from, le-le
 pub answer-wrong : (x j k : ℕ) → valid_flags x j k ≡ false → answer x j k ≡ flags_is 27 0 0
 unfolding answer
 answer-wrong x j k e = rw e
+
+-- flags as they are handed on: refused where there are none, and a refusal has a number
+pub handed_on : (r : Option ℕ) (b : Bool) (x : ℕ) → MatchOption r (b ≡ false) (λ y. (b ≡ true) × (y ≡ x))
+    → ok_or r (fault 27 0) ≡ outcome (unless b 27 0) x
+handed_on None b x e = rw e
+handed_on (Some y) b x (e, same) = rw (e, same)
+
+pub has-number : (b : Bool) (x : ℕ) → IfErr (outcome (unless b 27 0) x) (λ f. 0 < f.number)
+has-number true x = tt
+has-number false x = omega arith
+
+-- spread, they are the answer
+pub spread : (x j k : ℕ) → flags_answer (outcome (unless (valid_flags x j k) 27 0) (renumbered (numbering j) (numbering k) x)) ≡ answer x j k
+unfolding answer
+spread x j k = each (valid_flags x j k) (renumbered (numbering j) (numbering k) x)
+  where
+    each : (b : Bool) (y : ℕ) → flags_answer (outcome (unless b 27 0) y) ≡ flags_is (unless b 27 0).number (unless b 27 0).place (if_kept (unless b 27 0) y 0)
+    each true y = refl
+    each false y = refl
 
 -- the place is always 0, so the number and the flags are the whole answer
 pub no_place : (x j k : ℕ) → flags_is (answer x j k).number 0 (answer x j k).flags ≡ answer x j k

@@ -1,9 +1,9 @@
 -- The flags of an image in two numberings, and what the calls answer that turn one into the other:
 -- document 02, request 5.
-use Rattle.std.specs.Prelude.{ℕ, zero, suc, ◌+◌, ◌*◌, ◌/◌, ◌%◌, ◌^◌, ◌≡◌, Bool, ◌&&◌, leb}
+use Rattle.std.specs.Prelude.{ℕ, zero, suc, ◌+◌, ◌*◌, ◌/◌, ◌%◌, ◌^◌, ◌≡◌, Bool, ◌&&◌, leb, Result, Ok, Err}
 use Rattle.format.specs.Layout.{most_flags}
 use Rattle.format.specs.Fault.{unless, if_kept}
-use Rattle.flags.specs.declared.FlagsAnswer.{FlagsAnswer}
+use Rattle.format.specs.declared.Fault.{Fault}
 use Rattle.flags.specs.declared.Numbering.{Numbering}
 use Rattle.flags.specs.declared.Numbering.TheVariants.{Freedesktop, Gtk}
 
@@ -51,8 +51,19 @@ known k = leb k 1
 abbrev pub valid_flags : ℕ → ℕ → ℕ → Bool
 valid_flags x j k = leb x most_flags && known j && known k
 
+-- an answer, as the calls for C spread it: its number, its place and the flags
+pub record FlagsAnswer : Type 0 where
+  pub number : ℕ
+  pub place : ℕ
+  pub flags : ℕ
+
 abbrev pub flags_is : ℕ → ℕ → ℕ → FlagsAnswer
 flags_is n p x = record { number = n; place = p; flags = x }
+
+-- what a call for Rust hands on, spread in the same way: with a refusal the flags are 0
+abbrev pub flags_answer : Result ℕ Fault → FlagsAnswer
+flags_answer (Ok x) = flags_is 0 0 x
+flags_answer (Err f) = flags_is f.number f.place 0
 
 -- the flags x of the numbering j in the numbering k; 27 for flags above 15 or an unknown numbering,
 -- and the result is then 0

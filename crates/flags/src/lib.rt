@@ -1,17 +1,12 @@
 // The flags of an image in two numberings: into document 01's numbering, and back.
 #![tactic(auto)]
 
-ghost use Rattle.std.specs.Prelude.{◌≡◌, ◌≤◌, true, false, SomeIff, MatchOption};
-ghost use Rattle.flags.specs.Flags.{numbering, known, valid_flags, flags_in, flags_out};
+ghost use Rattle.std.specs.Prelude.{◌≡◌, ◌≤◌, ◌<◌, true, false, SomeIff, MatchOption, IfErr};
+ghost use Rattle.format.specs.Fault.{unless, outcome};
+ghost use Rattle.flags.specs.Flags.{numbering, known, valid_flags, flags_answer, flags_in, flags_out};
 ghost use Rattle.flags.specs.Flags as definition;
 
-// With number 0 the flags in the numbering asked for; with 27 they are 0. The place is always 0.
-#[derive(Clone, Copy)]
-pub struct FlagsAnswer {
-    pub number: u32,
-    pub place: usize,
-    pub flags: u16,
-}
+use format::Fault;
 
 // The numberings of the flags: document 01's, which is that of the freedesktop note, and GTK's.
 #[derive(Clone, Copy)]
@@ -74,34 +69,29 @@ fn converted(flags: u16, from: u32, to: u32) -> Option<u16>
     Some(renumbered(flags, Numbering::new(from)?, Numbering::new(to)?))
 }
 
-// The same as an answer, which is 27 where there is none.
-fn answer(flags: u16, from: u32, to: u32) -> FlagsAnswer
-    ensures { result ≡ definition.answer flags from to }
+// The same, refused by 27 where there is none.
+fn answer(flags: u16, from: u32, to: u32) -> Result<u16, Fault>
+    ensures { result ≡ outcome (unless (valid_flags flags from to) 27 0) (definition.renumbered (numbering from) (numbering to) flags) }
 {
-    match converted(flags, from, to) {
-        Some(flags) => FlagsAnswer {
-            number: 0,
-            place: 0,
-            flags,
-        },
-        None => FlagsAnswer {
-            number: 27,
-            place: 0,
-            flags: 0,
-        },
-    }
+    let refusal = Fault {
+        number: 27,
+        place: 0,
+    };
+    converted(flags, from, to).ok_or(refusal)
 }
 
-// Raw flags of a numbering in document 01's.
-pub fn flags_in(raw: u16, numbering: u32) -> FlagsAnswer
-    ensures { result ≡ flags_in raw numbering }
+// Raw flags of a numbering in document 01's. A refusal is 27 at 0.
+pub fn flags_in(raw: u16, numbering: u32) -> Result<u16, Fault>
+    ensures answer { flags_answer result ≡ flags_in raw numbering }
+    ensures refused { IfErr result (λ fault. 0 < fault.number) }
 {
     answer(raw, numbering, 0)
 }
 
-// Flags of document 01's numbering as raw flags of another.
-pub fn flags_out(flags: u16, numbering: u32) -> FlagsAnswer
-    ensures { result ≡ flags_out flags numbering }
+// Flags of document 01's numbering as raw flags of another. A refusal is 27 at 0.
+pub fn flags_out(flags: u16, numbering: u32) -> Result<u16, Fault>
+    ensures answer { flags_answer result ≡ flags_out flags numbering }
+    ensures refused { IfErr result (λ fault. 0 < fault.number) }
 {
     answer(flags, 0, numbering)
 }
