@@ -1,5 +1,5 @@
 -- What the four calls answer by an IMAGE_DATA_OFFSET, which is any number, and an entry number.
-use Rattle.std.specs.Prelude.{ℕ, List, [], length, ltb, leb}
+use Rattle.std.specs.Prelude.{ℕ, List, [], length, ltb, leb, Result, Ok, Err}
 use Rattle.format.specs.Layout.{header_size, most_bytes}
 use Rattle.format.specs.Number.{be}
 use Rattle.format.specs.Part.{inside}
@@ -7,11 +7,32 @@ use Rattle.format.specs.Fault.{unless, ◌or_else◌, if_kept}
 use Rattle.format.specs.declared.Fault.{Fault}
 use Rattle.format.specs.ImageData.{image_data_size, meta_data_field, meta_data_size, rectangle_field, points_field, names_field, rectangle_size, x0_field, y0_field, x1_field, y1_field, entry_at, point_size, x_field, y_field, display_name_size, language_field, text_field, there}
 use Rattle.format.specs.Notes.{valid_entries, note_of, note_fault}
-use Rattle.image_data.specs.declared.RectangleAnswer.{RectangleAnswer}
-use Rattle.image_data.specs.declared.PointAnswer.{PointAnswer}
-use Rattle.image_data.specs.declared.StringPart.{StringPart}
+use Rattle.image_data.specs.declared.Corners.{Corners}
+use Rattle.image_data.specs.declared.Point.{Point}
+use Rattle.image_data.specs.declared.Span.{Span}
 
--- the answers, whole
+-- the answers, as the calls for C spread them: a number, a place, and what there is with number 0
+pub record RectangleAnswer : Type 0 where
+  pub number : ℕ
+  pub place : ℕ
+  pub x0 : ℕ
+  pub y0 : ℕ
+  pub x1 : ℕ
+  pub y1 : ℕ
+
+pub record PointAnswer : Type 0 where
+  pub number : ℕ
+  pub place : ℕ
+  pub x : ℕ
+  pub y : ℕ
+
+pub record StringPart : Type 0 where
+  pub number : ℕ
+  pub place : ℕ
+  pub start : ℕ
+  pub length : ℕ
+
+-- the same, whole
 abbrev pub rectangle_is : ℕ → ℕ → ℕ → ℕ → ℕ → ℕ → RectangleAnswer
 rectangle_is n p x0 y0 x1 y1 = record { number = n; place = p; x0 = x0; y0 = y0; x1 = x1; y1 = y1 }
 
@@ -20,6 +41,19 @@ point_is n p x y = record { number = n; place = p; x = x; y = y }
 
 abbrev pub string_is : ℕ → ℕ → ℕ → ℕ → StringPart
 string_is n p a l = record { number = n; place = p; start = a; length = l }
+
+-- what the calls for Rust hand on, spread in the same way: with a refusal the rest is 0
+abbrev pub rectangle_answer : Result Corners Fault → RectangleAnswer
+rectangle_answer (Ok r) = rectangle_is 0 0 r.x0 r.y0 r.x1 r.y1
+rectangle_answer (Err f) = rectangle_is f.number f.place 0 0 0 0
+
+abbrev pub point_answer : Result Point Fault → PointAnswer
+point_answer (Ok p) = point_is 0 0 p.x p.y
+point_answer (Err f) = point_is f.number f.place 0 0
+
+abbrev pub string_answer : Result Span Fault → StringPart
+string_answer (Ok p) = string_is 0 0 p.start p.length
+string_answer (Err f) = string_is f.number f.place 0 0
 
 -- where the meta data of the image data d stands, and its rectangle and lists
 abbrev pub meta_at : List ℕ → ℕ → ℕ
@@ -85,6 +119,10 @@ attach_point s d i =
 -- where display name i stands
 abbrev pub display_name_at : List ℕ → ℕ → ℕ → ℕ
 display_name_at s d i = entry_at (names_at s d) display_name_size i
+
+-- where the string that the field f names stands, if it is whole
+abbrev pub string_of : List ℕ → ℕ → Span
+string_of s f = record { start = be 4 s f; length = length (note_of s f) }
 
 -- the way to display name i, then 24 on the string that its field f names
 unfoldable pub display_fault : List ℕ → ℕ → ℕ → ℕ → Fault

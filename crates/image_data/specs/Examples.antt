@@ -7,10 +7,7 @@ use Rattle.format.specs.Fault.{◌or_else◌}
 use Rattle.format.specs.String.{string, extent, is_whole, same_bytes}
 use Rattle.format.specs.Notes.{note_fault}
 use Rattle.format.specs.Examples.Notes.{whole, with}
-use Rattle.image_data.specs.declared.RectangleAnswer.{RectangleAnswer}
-use Rattle.image_data.specs.declared.PointAnswer.{PointAnswer}
-use Rattle.image_data.specs.declared.StringPart.{StringPart}
-use Rattle.image_data.specs.Call.{rectangle_is, point_is, string_is, bytes_fault, part_fault, meta_fault, entry_fault, rectangle_call_fault, rectangle, point_fault, attach_point, display_fault, display, display_language, display_text, display_bytes, language_bytes, text_bytes}
+use Rattle.image_data.specs.Call.{RectangleAnswer, PointAnswer, StringPart, rectangle_is, point_is, string_is, bytes_fault, part_fault, meta_fault, entry_fault, rectangle_call_fault, rectangle, point_fault, attach_point, display_fault, display, display_language, display_text, display_bytes, language_bytes, text_bytes}
 
 -- a call and what it has to answer; for a string its bytes too
 data Example : Type 0 where

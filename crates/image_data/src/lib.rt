@@ -3,44 +3,37 @@
 // its way and nothing beside.
 #![tactic(auto)]
 
-ghost use Rattle.std.specs.Prelude.{◌≡◌, ℕ, ◌+◌, ◌≤◌, ◌<◌, length, take, drop};
+ghost use Rattle.std.specs.Prelude.{◌≡◌, ℕ, ◌+◌, ◌≤◌, ◌<◌, length, take, drop, IfOk, IfErr};
 ghost use Rattle.format.specs.Number.{be};
 ghost use Rattle.format.specs.Fault.{◌or_else◌, outcome};
 ghost use Rattle.format.specs.ImageData.{entry_at};
 ghost use Rattle.format.specs.Notes.{note_fault};
-ghost use Rattle.image_data.specs.Call.{string_is, meta_at, rectangle_at, display_name_at, part_fault, meta_fault, entry_fault, rectangle_call_fault, string_judged, attach_point, display_language, display_text, language_bytes, text_bytes};
+ghost use Rattle.image_data.specs.Call.{rectangle_answer, point_answer, string_answer, meta_at, rectangle_at, display_name_at, part_fault, meta_fault, entry_fault, rectangle_call_fault, string_of, display_fault, attach_point, display_language, display_text, language_bytes, text_bytes};
 ghost use Rattle.image_data.specs.Call as calls;
 ghost use Rattle.image_data.specs.Promise.{AfterLong};
 
 use bigendian::{u16_at, u32_at};
 use format::{Extent, Fault};
 
-// With a refusal the corners are 0.
+// The two corners of a rectangle.
 #[derive(Clone, Copy)]
-pub struct RectangleAnswer {
-    pub number: u32,
-    pub place: usize,
+pub struct Corners {
     pub x0: u16,
     pub y0: u16,
     pub x1: u16,
     pub y1: u16,
 }
 
-// With a refusal the point is 0, 0.
+// An attach point.
 #[derive(Clone, Copy)]
-pub struct PointAnswer {
-    pub number: u32,
-    pub place: usize,
+pub struct Point {
     pub x: u16,
     pub y: u16,
 }
 
-// Where a display name's language or its text stands in the buffer; with a refusal the start and
-// the length are 0.
+// Where a display name's language or its text stands in the buffer.
 #[derive(Clone, Copy)]
-pub struct StringPart {
-    pub number: u32,
-    pub place: usize,
+pub struct Span {
     pub start: usize,
     pub length: usize,
 }
@@ -135,119 +128,88 @@ fn entry_part(
 }
 
 // The rectangle behind the IMAGE_DATA_OFFSET `data`.
-pub fn rectangle(cache: &[u8], data: usize) -> RectangleAnswer
-    ensures answer { result ≡ calls.rectangle cache.now «data» }
-    ensures kept { AfterLong cache.now «data» result.number }
+pub fn rectangle(cache: &[u8], data: usize) -> Result<Corners, Fault>
+    ensures answer { rectangle_answer result ≡ calls.rectangle cache.now «data» }
+    ensures refused { IfErr result (λ fault. 0 < fault.number) }
+    ensures kept { AfterLong cache.now «data» (rectangle_answer result).number }
 {
-    match rectangle_part(cache, data) {
-        Ok(at) => RectangleAnswer {
-            number: 0,
-            place: 0,
-            x0: u16_at(cache, at),
-            y0: u16_at(cache, at + 2),
-            x1: u16_at(cache, at + 4),
-            y1: u16_at(cache, at + 6),
-        },
-        Err(fault) => RectangleAnswer {
-            number: fault.number,
-            place: fault.place,
-            x0: 0,
-            y0: 0,
-            x1: 0,
-            y1: 0,
-        },
-    }
+    let at = rectangle_part(cache, data)?;
+    Ok(Corners {
+        x0: u16_at(cache, at),
+        y0: u16_at(cache, at + 2),
+        x1: u16_at(cache, at + 4),
+        y1: u16_at(cache, at + 6),
+    })
 }
 
 // The attach point `entry` behind it.
-pub fn attach_point(cache: &[u8], data: usize, entry: usize) -> PointAnswer
-    ensures answer { result ≡ attach_point cache.now «data» entry }
-    ensures kept { AfterLong cache.now «data» result.number }
+pub fn attach_point(cache: &[u8], data: usize, entry: usize) -> Result<Point, Fault>
+    ensures answer { point_answer result ≡ attach_point cache.now «data» entry }
+    ensures refused { IfErr result (λ fault. 0 < fault.number) }
+    ensures kept { AfterLong cache.now «data» (point_answer result).number }
 {
-    match entry_part(cache, data, 4, 4, entry) {
-        Ok(at) => PointAnswer {
-            number: 0,
-            place: 0,
-            x: u16_at(cache, at),
-            y: u16_at(cache, at + 2),
-        },
-        Err(fault) => PointAnswer {
-            number: fault.number,
-            place: fault.place,
-            x: 0,
-            y: 0,
-        },
-    }
-}
-
-// A refusal of a string.
-fn no_string(fault: Fault) -> StringPart
-    ensures { result ≡ string_is fault.number fault.place 0 0 }
-{
-    StringPart {
-        number: fault.number,
-        place: fault.place,
-        start: 0,
-        length: 0,
-    }
+    let at = entry_part(cache, data, 4, 4, entry)?;
+    Ok(Point {
+        x: u16_at(cache, at),
+        y: u16_at(cache, at + 2),
+    })
 }
 
 // Rule 24 on the string that `field` names, and where the string stands.
-fn string(cache: &[u8], field: usize) -> StringPart
+fn string(cache: &[u8], field: usize) -> Result<Span, Fault>
     requires { field + 4 ≤ length cache.now }
-    ensures { result ≡ string_judged cache.now field (note_fault cache.now field) }
+    ensures { result ≡ outcome (note_fault cache.now field) (string_of cache.now field) }
 {
-    match notes::extent_at(cache, field) {
-        Extent::Whole(length) => StringPart {
-            number: 0,
-            place: 0,
-            start: u32_at(cache, field) as usize,
-            length,
-        },
-        _ => no_string(Fault {
+    let Extent::Whole(length) = notes::extent_at(cache, field) else {
+        return Err(Fault {
             number: 24,
             place: field,
-        }),
-    }
+        });
+    };
+    Ok(Span {
+        start: u32_at(cache, field) as usize,
+        length,
+    })
 }
 
 // The string that the display name `entry` names in its field at `which`.
-fn display(cache: &[u8], data: usize, entry: usize, which: usize) -> StringPart
+fn display(cache: &[u8], data: usize, entry: usize, which: usize) -> Result<Span, Fault>
     requires { which ≤ 4 }
-    ensures { result ≡ calls.display cache.now «data» entry (display_name_at cache.now «data» entry + which) }
+    ensures { result ≡ outcome (display_fault cache.now «data» entry (display_name_at cache.now «data» entry + which)) (string_of cache.now (display_name_at cache.now «data» entry + which)) }
 {
-    match entry_part(cache, data, 8, 8, entry) {
-        Ok(at) => string(cache, at + which),
-        Err(fault) => no_string(fault),
-    }
+    let at = entry_part(cache, data, 8, 8, entry)?;
+    string(cache, at + which)
 }
 
 // The language of the display name `entry` behind the IMAGE_DATA_OFFSET `data`.
-pub fn display_language(cache: &[u8], data: usize, entry: usize) -> StringPart
-    ensures answer { result ≡ display_language cache.now «data» entry }
-    ensures kept { AfterLong cache.now «data» result.number }
-    ensures inside { result.start + result.length ≤ length cache.now }
+pub fn display_language(cache: &[u8], data: usize, entry: usize) -> Result<Span, Fault>
+    ensures answer { string_answer result ≡ display_language cache.now «data» entry }
+    ensures refused { IfErr result (λ fault. 0 < fault.number) }
+    ensures kept { AfterLong cache.now «data» (string_answer result).number }
+    ensures inside { IfOk result (λ part. part.start + part.length ≤ length cache.now) }
 {
     display(cache, data, entry, 0)
 }
 
 // Its text.
-pub fn display_name(cache: &[u8], data: usize, entry: usize) -> StringPart
-    ensures answer { result ≡ display_text cache.now «data» entry }
-    ensures kept { AfterLong cache.now «data» result.number }
-    ensures inside { result.start + result.length ≤ length cache.now }
+pub fn display_name(cache: &[u8], data: usize, entry: usize) -> Result<Span, Fault>
+    ensures answer { string_answer result ≡ display_text cache.now «data» entry }
+    ensures refused { IfErr result (λ fault. 0 < fault.number) }
+    ensures kept { AfterLong cache.now «data» (string_answer result).number }
+    ensures inside { IfOk result (λ part. part.start + part.length ≤ length cache.now) }
 {
     display(cache, data, entry, 4)
 }
 
-// The bytes of a part.
-fn bytes(cache: &[u8], part: StringPart) -> &[u8]
-    requires { part.start + part.length ≤ length cache.now }
-    ensures { result.now ≡ take part.length (drop part.start cache.now) }
+// The bytes of a part, and none of a refusal.
+fn bytes(cache: &[u8], part: Result<Span, Fault>) -> &[u8]
+    requires { IfOk part (λ part. part.start + part.length ≤ length cache.now) }
+    ensures { result.now ≡ take (string_answer part).length (drop (string_answer part).start cache.now) }
 {
-    let start = part.start;
-    let end = start + part.length;
-    &cache[start..end]
+    match part {
+        Ok(Span { start, length }) => &cache[start..start + length],
+        Err(_) => &[],
+    }
 }
 
 // The language itself, as a part of `cache`; empty where `display_language` refuses.

@@ -1,16 +1,17 @@
 -- The calls' answers, by the way that was gone.
 use Rattle.std.specs.Prelude.{ℕ, suc, ◌+◌, ◌-◌, ◌≡◌, ◌≤◌, List, length, Ok, Err}
-use Rattle.std.proofs.Common.{sym, ap, ◌∙◌, arith}
+use Rattle.std.proofs.Common.{sym, arith}
+use Rattle.std.proofs.Math.Decide.{ℕ_discrete}
 use Rattle.format.specs.Number.{be}
 use Rattle.format.specs.Fault.{◌or_else◌, outcome}
 use Rattle.format.specs.ImageData.{names_field, point_size, entry_at, display_name_size}
-use Rattle.format.specs.Notes.{note_fault}
+use Rattle.format.specs.Notes.{note_of, note_fault}
 use Rattle.format.specs.declared.Fault.{Fault}
-use Rattle.format.proofs.Laws.Faults.{or_else-first, or_else-next, or_else-none, or_else-assoc}
-use Rattle.format.proofs.Laws.Outcomes.{kept-by, broken-by}
-use Rattle.image_data.specs.Call.{rectangle_is, point_is, string_is, meta_at, rectangle_at, points_at, display_name_at, part_fault, meta_fault, entry_fault, rectangle_call_fault, rectangle, point_fault, attach_point, display_fault, string_judged, display}
+use Rattle.format.proofs.Laws.Faults.{broken-takes, or_else-none, or_else-assoc}
+use Rattle.format.proofs.Laws.Outcomes.{outcome-broken, kept-by, broken-by}
+use Rattle.image_data.specs.Call.{rectangle_is, point_is, string_answer, string_of, meta_at, rectangle_at, points_at, display_name_at, part_fault, meta_fault, entry_fault, rectangle_call_fault, rectangle, point_fault, attach_point, display_fault, string_judged, display}
 use Rattle.image_data.proofs.Laws.Judged.{part-inside, entry-inside}
-use Rattle.image_data.proofs.Laws.Way.{Clean, clean-unless, clean-or_else}
+use Rattle.image_data.proofs.Laws.Way.{Clean, clean-unless, clean-or_else, way-ends, way_on}
 
 clean-part : (s : List ℕ) (p size place : ℕ) → Clean (part_fault s p size place)
 unfolding part_fault
@@ -78,16 +79,25 @@ module _ (s : List ℕ) (d i f : ℕ) where
 
   pub display-refused : {v : Fault}
       → Err v ≡ outcome (meta_fault s d or_else entry_fault s (names_field (meta_at s d)) display_name_size i) (display_name_at s d i)
-      → string_is v.number v.place 0 0 ≡ display s d i f
-  unfolding display
-  display-refused {v} e =
-      let way = broken-by _ (display_name_at s d i) v e in
-      let first = meta_fault s d or_else entry_fault s (names_field (meta_at s d)) display_name_size i in
-      let more : first.number ≡ suc (first.number - 1) = omega (arith, way.0) in
-      rw (way.1, way-first, or_else-first first (note_fault s f) way.0, more)
+      → Err v ≡ outcome (display_fault s d i f) (string_of s f)
+  display-refused e = rw way-first (way-ends _ _ _ _ e)
 
   pub display-judged : {p : ℕ}
       → Ok p ≡ outcome (meta_fault s d or_else entry_fault s (names_field (meta_at s d)) display_name_size i) (display_name_at s d i)
-      → string_judged s f (note_fault s f) ≡ display s d i f
+      → outcome (note_fault s f) (string_of s f) ≡ outcome (display_fault s d i f) (string_of s f)
+  display-judged e = rw way-first (way_on _ _ _ _ e)
+
+  clean-display : Clean (display_fault s d i f)
+  unfolding display_fault note_fault
+  clean-display = clean-or_else _ _ (clean-or_else _ _ (clean-unless _ _ _))
+
+  -- spread, the outcome is the call's answer
+  pub display-spread : string_answer (outcome (display_fault s d i f) (string_of s f)) ≡ display s d i f
   unfolding display
-  display-judged {p} e = ap (string_judged s f) (sym (way-first ∙ or_else-next _ _ (kept-by _ (display_name_at s d i) p e).0))
+  display-spread = spread (display_fault s d i f) clean-display
+    where
+      spread : (v : Fault) → Clean v → string_answer (outcome v (string_of s f)) ≡ string_judged s f v
+      spread v clean = elim (ℕ_discrete v.number 0) [
+        | yes h ↦ rw (clean h)
+        | no n ↦ rw (outcome-broken v (string_of s f) n, broken-takes v (be 4 s f) 0 n, broken-takes v (length (note_of s f)) 0 n)
+      ]

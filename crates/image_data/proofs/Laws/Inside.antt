@@ -1,6 +1,6 @@
 -- The part handed back for a string lies inside, and is the string.
 use Prim.Native.Nat.{ℕ, zero, suc, ◌+◌, ◌≤◌, ◌<◌}
-use Rattle.std.specs.Prelude.{◌≡◌, List, drop}
+use Rattle.std.specs.Prelude.{◌≡◌, List, drop, Result, Ok, Err, IfOk}
 use Rattle.std.proofs.Math.Path.{refl}
 use Rattle.std.proofs.Common.{arith}
 use Rattle.std.proofs.Math.ListN.{length, take, length-drop}
@@ -8,7 +8,9 @@ use Rattle.format.specs.Number.{be}
 use Rattle.format.specs.Notes.{note_part, note_of, note_fault}
 use Rattle.format.proofs.Laws.Faults.{or_else-none, unless-none}
 use Rattle.format.proofs.Laws.Strings.{string-front, whole-string}
-use Rattle.image_data.specs.Call.{display_fault, display, display_bytes}
+use Rattle.format.specs.declared.Fault.{Fault}
+use Rattle.image_data.specs.declared.Span.{Span}
+use Rattle.image_data.specs.Call.{string_answer, display_fault, display, display_bytes}
 
 module _ (s : List ℕ) (d i f : ℕ) where
   -- a string that is handed back ends before its zero byte
@@ -25,6 +27,11 @@ module _ (s : List ℕ) (d i f : ℕ) where
       go : (n : ℕ) → (display_fault s d i f).number ≡ n → (display s d i f).start + (display s d i f).length ≤ length s
       go zero e = rw (display, e) (omega (arith, ends e, length-drop (be 4 s f) s))
       go (suc n) e = rw (display, e) (omega arith)
+
+  -- the same of the part as it is handed on
+  pub string-within : (r : Result Span Fault) → string_answer r ≡ display s d i f → IfOk r (λ part. part.start + part.length ≤ length s)
+  string-within (Ok part) e = rw (← e) at string-inside
+  string-within (Err v) e = tt
 
   pub string_bytes_lem : take (display s d i f).length (drop (display s d i f).start s) ≡ display_bytes s d i f
   unfolding display display_bytes
