@@ -4,7 +4,7 @@
 // 0.
 #![tactic(auto)]
 
-ghost use Rattle.std.specs.Prelude.{◌≡◌, length};
+ghost use Rattle.std.specs.Prelude.{◌≡◌, length, MatchResult};
 ghost use Rattle.format.specs.Answer.{checked, looked_up, directory_is, part_is};
 ghost use Rattle.format.specs.Call.{check, lookup, lookup_words, directory, directory_part};
 ghost use Rattle.format.specs.declared.Reading.TheVariants.{Short, Long};
@@ -17,7 +17,8 @@ ghost use Rattle.catalogue.specs.Call.{write_is, write, write_leaves, catalogue_
 ghost use Rattle.salvage_spec.specs.Call.{salvage_is, salvage, bytes_left_of, words_left_of};
 ghost use Rattle.squeeze_spec.specs.Call.{squeeze, squeeze_leaves};
 
-use format::CheckAnswer;
+use format::{CheckAnswer, Fault};
+use image_data::{Corners, Point, Span};
 use listing::Position;
 
 // Hands on an answer of the check.
@@ -37,6 +38,17 @@ fn hand_on(
     *opened = answer.opened;
     *longest = answer.longest;
     answer.number
+}
+
+// An answer as its number, its place and what it gives: with a refusal that is `none`, and else the
+// number and the place are 0.
+fn spread<T>(answer: Result<T, Fault>, none: T) -> (u32, usize, T)
+    ensures { MatchResult answer (λ value. result ≡ (0, 0, value)) (λ fault. result ≡ (fault.number, fault.place, none)) }
+{
+    match answer {
+        Ok(value) => (0, 0, value),
+        Err(fault) => (fault.number, fault.place, none),
+    }
 }
 
 #[unsafe(no_mangle)]
@@ -159,13 +171,19 @@ pub extern "C" fn icon_cache_rectangle(
 ) -> u32
     ensures { rectangle_is result place.new x0.new y0.new x1.new y1.new ≡ rectangle cache.now «data» }
 {
-    let answer = image_data::rectangle(cache, data);
-    *place = answer.place;
-    *x0 = answer.x0;
-    *y0 = answer.y0;
-    *x1 = answer.x1;
-    *y1 = answer.y1;
-    answer.number
+    let none = Corners {
+        x0: 0,
+        y0: 0,
+        x1: 0,
+        y1: 0,
+    };
+    let (number, at, corners) = spread(image_data::rectangle(cache, data), none);
+    *place = at;
+    *x0 = corners.x0;
+    *y0 = corners.y0;
+    *x1 = corners.x1;
+    *y1 = corners.y1;
+    number
 }
 
 #[unsafe(no_mangle)]
@@ -179,11 +197,12 @@ pub extern "C" fn icon_cache_attach_point(
 ) -> u32
     ensures { point_is result place.new x.new y.new ≡ attach_point cache.now «data» entry }
 {
-    let answer = image_data::attach_point(cache, data, entry);
-    *place = answer.place;
-    *x = answer.x;
-    *y = answer.y;
-    answer.number
+    let none = Point { x: 0, y: 0 };
+    let (number, at, point) = spread(image_data::attach_point(cache, data, entry), none);
+    *place = at;
+    *x = point.x;
+    *y = point.y;
+    number
 }
 
 #[unsafe(no_mangle)]
@@ -197,11 +216,15 @@ pub extern "C" fn icon_cache_display_language(
 ) -> u32
     ensures { string_is result place.new start.new text_length.new ≡ display_language cache.now «data» entry }
 {
-    let answer = image_data::display_language(cache, data, entry);
-    *place = answer.place;
-    *start = answer.start;
-    *text_length = answer.length;
-    answer.number
+    let none = Span {
+        start: 0,
+        length: 0,
+    };
+    let (number, at, part) = spread(image_data::display_language(cache, data, entry), none);
+    *place = at;
+    *start = part.start;
+    *text_length = part.length;
+    number
 }
 
 #[unsafe(no_mangle)]
@@ -215,11 +238,15 @@ pub extern "C" fn icon_cache_display_name(
 ) -> u32
     ensures { string_is result place.new start.new text_length.new ≡ display_text cache.now «data» entry }
 {
-    let answer = image_data::display_name(cache, data, entry);
-    *place = answer.place;
-    *start = answer.start;
-    *text_length = answer.length;
-    answer.number
+    let none = Span {
+        start: 0,
+        length: 0,
+    };
+    let (number, at, part) = spread(image_data::display_name(cache, data, entry), none);
+    *place = at;
+    *start = part.start;
+    *text_length = part.length;
+    number
 }
 
 #[unsafe(no_mangle)]
@@ -249,18 +276,18 @@ pub extern "C" fn icon_cache_list(
 pub extern "C" fn icon_cache_flags_in(raw: u16, numbering: u32, flags: &mut u16) -> u32
     ensures { flags_is result 0 flags.new ≡ flags_in raw numbering }
 {
-    let answer = flags::flags_in(raw, numbering);
-    *flags = answer.flags;
-    answer.number
+    let (number, _, renumbered) = spread(flags::flags_in(raw, numbering), 0);
+    *flags = renumbered;
+    number
 }
 
 #[unsafe(no_mangle)]
 pub extern "C" fn icon_cache_flags_out(flags: u16, numbering: u32, raw: &mut u16) -> u32
     ensures { flags_is result 0 raw.new ≡ flags_out flags numbering }
 {
-    let answer = flags::flags_out(flags, numbering);
-    *raw = answer.flags;
-    answer.number
+    let (number, _, renumbered) = spread(flags::flags_out(flags, numbering), 0);
+    *raw = renumbered;
+    number
 }
 
 #[unsafe(no_mangle)]
