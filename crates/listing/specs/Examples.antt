@@ -8,15 +8,14 @@ use Rattle.format.specs.Header.{header_fault}
 use Rattle.format.specs.Record.{name_fault, list_fault, record_fault}
 use Rattle.format.specs.Chain.{link_fault, follow, chain}
 use Rattle.format.specs.Farm.{farm, looped}
-use Rattle.listing.specs.Listing.{position, hands_back, stays, position_fault, onward, step}
+use Rattle.listing.specs.Listing.{StepAnswer, position, hands_back, stays, position_fault, onward, step}
 use Rattle.listing.specs.declared.Position.{Position}
-use Rattle.listing.specs.declared.Step.{Step}
 
 unfoldable pub same_position : Position → Position → Bool
 same_position q b = eqb q.bucket b.bucket && eqb q.count b.count
 
 -- the step from q answers b
-unfoldable pub answers : List ℕ → Position → Step → Bool
+unfoldable pub answers : List ℕ → Position → StepAnswer → Bool
 answers s q b =
     let a = step s q in
     eqb a.number b.number && eqb a.place b.place && eqb a.«record» b.«record» && same_position a.next b.next

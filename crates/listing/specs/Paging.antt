@@ -5,11 +5,10 @@ use Rattle.format.specs.Header.{header_fault, buckets}
 use Rattle.format.specs.Chain.{chain_of, most_records, all_records, opened_on}
 use Rattle.format.specs.Call.{check}
 use Rattle.format.specs.Words.{link, KeepsBelow, Holds, Breaks, OnChain, Turns, Accepted}
-use Rattle.listing.specs.Listing.{position, start, hands_back, stays, position_fault, step}
+use Rattle.listing.specs.Listing.{StepAnswer, position, start, hands_back, stays, position_fault, step}
 use Rattle.format.specs.declared.Next.TheVariants.{End, Broken, Record}
 use Rattle.format.specs.declared.Reading.TheVariants.{Short}
 use Rattle.listing.specs.declared.Position.{Position}
-use Rattle.listing.specs.declared.Step.{Step}
 
 -- where the chain of a position has no more records, a step goes on at the next bucket
 pub data GoesOn (s : List ℕ) : Position → Position → Type 0 where
@@ -39,7 +38,7 @@ unfoldable pub reached : ℕ → List ℕ → Position → Position
 reached zero s q = q
 reached (suc n) s q = reached n s (step s q).next
 
-abbrev pub step_at : ℕ → List ℕ → Position → Step
+abbrev pub step_at : ℕ → List ℕ → Position → StepAnswer
 step_at n s q = step s (reached n s q)
 
 -- the list holds each record of each chain, and none twice
@@ -48,7 +47,7 @@ pub record EachOnce (s xs : List ℕ) : Type 0 where
   pub once : (m n : ℕ) → m < length xs → n < length xs → get_or xs m 0 ≡ get_or xs n 0 → m ≡ n
 
 -- the step hands back the record r, and the position of r's own bucket with r counted
-abbrev pub HandsBack : List ℕ → Step → ℕ → Type 0
+abbrev pub HandsBack : List ℕ → StepAnswer → ℕ → Type 0
 HandsBack s a r = (k m : ℕ) × (k < buckets s) × OnChain s k m r × (a ≡ hands_back r (position k (suc m)))
 
 -- the n-th step of the walk from the start hands back the n-th record of the list; then it is done

@@ -2,18 +2,18 @@
 // order and the position after it.
 #![tactic(auto)]
 
-ghost use Rattle.std.specs.Prelude.{◌≡◌, ◌+◌, ◌-◌, ◌^◌, ◌≤◌, ◌<◌, length};
+ghost use Rattle.std.specs.Prelude.{◌≡◌, ◌+◌, ◌-◌, ◌^◌, ◌≤◌, ◌<◌, length, IfErr};
 ghost use Rattle.format.specs.Header.{buckets};
 ghost use Rattle.format.specs.Chain.{chain_of};
 ghost use Rattle.format.specs.Words.{KeepsBelow};
 ghost use Rattle.format.specs.declared.Next.TheVariants.{Record};
 ghost use Rattle.format.specs.declared.Reading.TheVariants.{Short};
 ghost use Rattle.tables.specs.Tables.{TablesOf};
-ghost use Rattle.listing.specs.Listing.{position, hands_back, stays, step};
+ghost use Rattle.listing.specs.Listing.{position, step_to, step, step_answer};
 ghost use Rattle.listing.specs.Reach.{reached};
 ghost use Rattle.listing.specs.Listing as definition;
 
-use format::Next;
+use format::{Fault, Next};
 use tables::Tables;
 
 // A bucket, and how many records of its chain are passed. A caller may make one up.
@@ -23,14 +23,68 @@ pub struct Position {
     pub count: usize,
 }
 
-// The answer from a position: with number 0 the next record and the position after it; with any
-// other the record is 0 and the position is as it came.
+// The next record, and the position after it.
 #[derive(Clone, Copy)]
 pub struct Step {
-    pub number: u32,
-    pub place: usize,
     pub record: usize,
     pub next: Position,
+}
+
+// The step to `record`, which comes after `passed` records on the chain of `bucket`.
+fn step_to(bucket: u32, passed: usize, record: usize) -> Step
+    requires { passed < 2 ^ 32 }
+    ensures { result ≡ step_to «record» (position bucket (passed + 1)) }
+{
+    let next = Position {
+        bucket: bucket as usize,
+        count: passed + 1,
+    };
+    Step { record, next }
+}
+
+// The step past `passed` records of the chain of `bucket`, which is known to go on after `walked`
+// of them; none where it ends before.
+fn go_further(
+    cache: &[u8],
+    t: Tables,
+    bucket: u32,
+    walked: usize,
+    passed: usize,
+) -> Result<Option<Step>, Fault>
+    requires tables_of { TablesOf cache.now t }
+    requires bucket_bound { (bucket < buckets cache.now) × (walked ≤ passed) × (passed < length cache.now) }
+    requires keeps_below { KeepsBelow Short cache.now bucket (walked + 1) }
+    ensures { result ≡ reached bucket passed (chain_of Short cache.now bucket passed).after }
+{
+    let judged = chains::go_on(cache, t, bucket, walked, passed);
+    let chain = chains::finish(cache, judged, passed);
+    let after = chain.after;
+    match after {
+        Next::Record(record) => Ok(Some(step_to(bucket, passed, record))),
+        Next::Broken(number, place) => Err(Fault { number, place }),
+        Next::End => Ok(None),
+    }
+}
+
+// The same, where `record` comes after `walked` records.
+fn reach(
+    cache: &[u8],
+    t: Tables,
+    bucket: u32,
+    walked: usize,
+    passed: usize,
+    record: usize,
+) -> Result<Option<Step>, Fault>
+    requires tables_of { TablesOf cache.now t }
+    requires bucket_bound { (bucket < buckets cache.now) × (walked ≤ passed) × (passed < length cache.now) }
+    requires walked_value { (chain_of Short cache.now bucket walked).after ≡ Record «record» }
+    ensures { result ≡ reached bucket passed (chain_of Short cache.now bucket passed).after }
+{
+    if walked < passed {
+        go_further(cache, t, bucket, walked, passed)
+    } else {
+        Ok(Some(step_to(bucket, passed, record)))
+    }
 }
 
 impl Position {
@@ -44,84 +98,13 @@ impl Position {
         }
     }
 
-    // The answer without a record.
-    fn stay(self, number: u32, place: usize) -> Step
-        ensures { result ≡ stays number place self }
-    {
-        Step {
-            number,
-            place,
-            record: 0,
-            next: self,
-        }
-    }
-
-    // The answer that hands back `record`, which comes after `passed` records on the chain of
-    // `bucket`.
-    fn hand_back(self, bucket: u32, passed: usize, record: usize) -> Step
-        requires { passed < 2 ^ 32 }
-        ensures { result ≡ hands_back «record» (position bucket (passed + 1)) }
-    {
-        let next = Position {
-            bucket: bucket as usize,
-            count: passed + 1,
-        };
-        Step {
-            number: 0,
-            place: 0,
-            record,
-            next,
-        }
-    }
-
-    // The answer from the chain of `bucket`, which is known to go on after `walked` records, once
-    // the position's count of them is passed: 28 where it ends before.
-    fn go_further(self, cache: &[u8], t: Tables, bucket: u32, walked: usize) -> Step
-        requires tables_of { TablesOf cache.now t }
-        requires bucket_bound { (bucket < buckets cache.now) × (walked ≤ self.count) × (self.count < length cache.now) }
-        requires keeps_below { KeepsBelow Short cache.now bucket (walked + 1) }
-        ensures { result ≡ reached self bucket self.count (chain_of Short cache.now bucket self.count).after }
-    {
-        let passed = self.count;
-        let judged = chains::go_on(cache, t, bucket, walked, passed);
-        let chain = chains::finish(cache, judged, passed);
-        let after = chain.after;
-        match after {
-            Next::Record(record) => self.hand_back(bucket, passed, record),
-            Next::Broken(number, place) => self.stay(number, place),
-            Next::End => self.stay(28, 0),
-        }
-    }
-
-    // The same, where `record` comes after `walked` records, and `passed` are to be passed.
-    fn reach(
-        self,
-        cache: &[u8],
-        t: Tables,
-        bucket: u32,
-        walked: usize,
-        passed: usize,
-        record: usize,
-    ) -> Step
-        requires tables_of { TablesOf cache.now t }
-        requires bucket_bound { (bucket < buckets cache.now) × (walked ≤ passed) × (passed < length cache.now) }
-        requires passed_value { walked < passed → passed ≡ self.count }
-        requires walked_value { (chain_of Short cache.now bucket walked).after ≡ Record «record» }
-        ensures { result ≡ reached self bucket passed (chain_of Short cache.now bucket passed).after }
-    {
-        if walked < passed {
-            self.go_further(cache, t, bucket, walked)
-        } else {
-            self.hand_back(bucket, passed, record)
-        }
-    }
-
-    // The answer from a position that is valid: the chains are tried from its own on, and only on
-    // that are records passed.
-    fn onward(self, cache: &[u8], t: Tables) -> Step
+    // The step from a position that is valid: the chains are tried from its own on, and only on
+    // that are records passed. 28 where none has a record more.
+    fn onward(self, cache: &[u8], t: Tables) -> Result<Step, Fault>
         requires tables_of { TablesOf cache.now t }
         requires bucket_bound { (self.bucket < buckets cache.now) × (self.count ≤ length cache.now - 11) }
-        ensures { result ≡ definition.onward (buckets cache.now - self.bucket) cache.now self self.bucket self.count }
+        ensures answer { step_answer self result ≡ definition.onward (buckets cache.now - self.bucket) cache.now self self.bucket self.count }
+        ensures refused { IfErr result (λ fault. 0 < fault.number) }
     {
         let n = t.buckets;
         let mut passed = self.count;
@@ -131,35 +114,42 @@ impl Position {
             let after = chain.after;
             match after {
                 Next::Record(record) => {
-                    let step = self.reach(cache, t, bucket, walked, passed, record);
-                    if step.number != 28 {
-                        return step;
+                    if let Some(step) = reach(cache, t, bucket, walked, passed, record)? {
+                        return Ok(step);
                     }
                 }
                 Next::Broken(number, place) => {
-                    return self.stay(number, place);
+                    return Err(Fault { number, place });
                 }
                 Next::End => {}
             }
             passed = 0;
             walked = 0;
         }
-        self.stay(28, 0)
+        Err(Fault {
+            number: 28,
+            place: 0,
+        })
     }
 
     // The next record from this position on, in the check's order, and the position after it.
-    pub fn next(self, cache: &[u8]) -> Step
-        ensures { result ≡ step cache.now self }
+    pub fn next(self, cache: &[u8]) -> Result<Step, Fault>
+        ensures answer { step_answer self result ≡ step cache.now self }
+        ensures refused { IfErr result (λ fault. 0 < fault.number) }
     {
-        if let Err(fault) = tables::header(cache) {
-            return self.stay(fault.number, fault.place);
-        }
+        tables::header(cache)?;
         let t = tables::read(cache);
         if t.buckets as usize <= self.bucket {
-            return self.stay(26, 0);
+            return Err(Fault {
+                number: 26,
+                place: 0,
+            });
         }
         if cache.len() - 11 < self.count {
-            return self.stay(26, 0);
+            return Err(Fault {
+                number: 26,
+                place: 0,
+            });
         }
         self.onward(cache, t)
     }

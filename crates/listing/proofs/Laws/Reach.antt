@@ -1,41 +1,50 @@
--- What one chain answers to a step, and what the step goes by.
-use Rattle.std.specs.Prelude.{ℕ, suc, ◌≡◌, refl, List}
+-- What one chain gives to a step, by what comes after the records passed, and the other way round.
+use Rattle.std.specs.Prelude.{ℕ, suc, ◌+◌, ◌<◌, ◌≡◌, refl, List, Option, Some, None, Result, Ok, Err}
 use Rattle.std.proofs.Common.{sym, ap, ◌∙◌, add-one, arith}
 use Rattle.format.specs.Chain.{chain_of}
-use Rattle.format.proofs.Laws.Numbers.{never}
+use Rattle.format.specs.Fault.{fault}
 use Rattle.format.proofs.Laws.Along.{after_is, holds-chain, breaks-chain, keeps-chain}
-use Rattle.format.proofs.Laws.Links.{broken-number}
 use Rattle.format.proofs.Laws.Course.{Course, ends, breaks, goes_on, course}
+use Rattle.format.specs.declared.Fault.{Fault}
 use Rattle.format.specs.declared.Next.{Next}
 use Rattle.format.specs.declared.Next.TheVariants.{End, Broken, Record}
 use Rattle.format.specs.declared.Reading.TheVariants.{Short}
-use Rattle.listing.specs.Listing.{onward}
+use Rattle.listing.specs.Listing.{position, step_to}
 use Rattle.listing.specs.Reach.{reached}
-use Rattle.listing.proofs.Laws.Steps.{step-number, onward-breaks, onward-gives}
-use Rattle.listing.specs.declared.Position.{Position}
 use Rattle.listing.specs.declared.Step.{Step}
 
-module _ (s : List ℕ) (q : Position) (k c : ℕ) {a : Step} (e : a ≡ reached q k c (chain_of Short s k c).after) where
-  said : {l : Next} → (chain_of Short s k c).after ≡ l → a ≡ reached q k c l
-  said d = e ∙ ap (reached q k c) d
+abbrev Given : Type 0
+Given = Result (Option Step) Fault
 
-  -- a record or a broken rule is the answer
-  pub reach-answers : (n : ℕ) → (a.number ≡ 28 → ⊥) → onward (suc n) s q k c ≡ a
-  reach-answers n other = go (chain_of Short s k c).after refl
-    where
-      go : (l : Next) → (chain_of Short s k c).after ≡ l → onward (suc n) s q k c ≡ a
-      go End d = absurd (other (step-number (said d)))
-      go (Broken x p) d = onward-breaks s q n k c d ∙ sym (said d)
-      go (Record r) d = onward-gives s q n k c d ∙ rw (← (add-one c)) (sym (said d))
+module _ (k c : ℕ) where
+  pub reach-gives : (l : Next) {a : Step} → ◌≡◌ {A = Given} (Ok (Some a)) (reached k c l) → (l ≡ Record a.«record») × (a ≡ step_to a.«record» (position k (suc c)))
+  reach-gives End e = cc
+  reach-gives (Broken x p) e = cc
+  reach-gives (Record r) {a} e =
+      let is : a ≡ step_to r (position k (c + 1)) = cc in
+      let far : a ≡ step_to a.«record» (position k (c + 1)) = rw is refl in
+      (sym (ap (λ (a : Step). Record a.«record») is), far ∙ ap (λ n. step_to a.«record» (position k n)) (add-one c))
 
-  -- 28: the chain ends
-  pub reach-ends : a.number ≡ 28 → (chain_of Short s k c).after ≡ End
-  reach-ends none = go (course Short s k c)
-    where
-      number : {l : Next} → (chain_of Short s k c).after ≡ l → (reached q k c l).number ≡ 28
-      number d = sym (step-number (said d)) ∙ none
+  pub reach-broken : (l : Next) {v : Fault} → ◌≡◌ {A = Given} (Err v) (reached k c l) → l ≡ Broken v.number v.place
+  reach-broken End e = cc
+  reach-broken (Broken x p) {v} e =
+      let is : v ≡ fault x p = cc in
+      sym (ap (λ (v : Fault). Broken v.number v.place) is)
+  reach-broken (Record r) e = cc
 
-      go : Course Short s k c → (chain_of Short s k c).after ≡ End
-      go (ends l h) = after_is (holds-chain Short s k l h)
-      go (breaks l b) = absurd (never 28 (broken-number b) refl (number (after_is (breaks-chain Short s k l b))))
-      go (goes_on keeps) = absurd (omega (arith, number (after_is (keeps-chain Short s k keeps))))
+  pub reach-ends : (l : Next) → ◌≡◌ {A = Given} (Ok None) (reached k c l) → l ≡ End
+  reach-ends End e = refl
+  reach-ends (Broken x p) e = cc
+  reach-ends (Record r) e = cc
+
+-- a rule that a chain breaks has a number above 0
+pub broken-some : (s : List ℕ) (k c : ℕ) {x p : ℕ} → (chain_of Short s k c).after ≡ Broken x p → 0 < x
+broken-some s k c {x} {p} e = go (course Short s k c)
+  where
+    go : Course Short s k c → 0 < x
+    go (ends l h) = let other : ◌≡◌ {A = Next} End (Broken x p) = sym (after_is (holds-chain Short s k l h)) ∙ e in cc
+    go (breaks {x = y} {p = o} l b) =
+        let same : ◌≡◌ {A = Next} (Broken y o) (Broken x p) = sym (after_is (breaks-chain Short s k l b)) ∙ e in
+        let is : y ≡ x = cc in
+        omega (arith, is, b.some)
+    go (goes_on keeps) = let other : ◌≡◌ {A = Next} (Record _) (Broken x p) = sym (after_is (keeps-chain Short s k keeps)) ∙ e in cc

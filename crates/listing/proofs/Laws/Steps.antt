@@ -10,15 +10,14 @@ use Rattle.format.specs.declared.Fault.{Fault}
 use Rattle.format.specs.declared.Next.TheVariants.{End, Broken, Record}
 use Rattle.format.proofs.Laws.Faults.{or_else-first, or_else-next, or_else-none, unless-none, kept-takes, broken-takes}
 use Rattle.format.specs.declared.Reading.TheVariants.{Short}
-use Rattle.listing.specs.Listing.{position, hands_back, stays, position_fault, onward, step}
+use Rattle.listing.specs.Listing.{StepAnswer, position, hands_back, stays, position_fault, onward, step}
 use Rattle.listing.specs.declared.Position.{Position}
-use Rattle.listing.specs.declared.Step.{Step}
 
-pub step-number : {a b : Step} → a ≡ b → a.number ≡ b.number
-step-number e = ap (λ (a : Step). a.number) e
+pub step-number : {a b : StepAnswer} → a ≡ b → a.number ≡ b.number
+step-number e = ap (λ (a : StepAnswer). a.number) e
 
-pub step-next : {a b : Step} → a ≡ b → a.next ≡ b.next
-step-next e = ap (λ (a : Step). a.next) e
+pub step-next : {a b : StepAnswer} → a ≡ b → a.next ≡ b.next
+step-next e = ap (λ (a : StepAnswer). a.next) e
 
 -- one bucket, by what comes after the records to be passed on its chain
 module _ (s : List ℕ) (q : Position) (n k c : ℕ) where
