@@ -2,16 +2,15 @@
 // buffer, any name and any number, and says its whole answer by a definition of the crate `format`.
 #![tactic(auto)]
 
-ghost use Rattle.std.specs.Prelude.{◌≡◌, length};
-ghost use Rattle.format.specs.Fault.{outcome};
-ghost use Rattle.format.specs.Call.{lookup_words, directory_fault, directory_part, directory_path};
+ghost use Rattle.std.specs.Prelude.{◌≡◌, ◌<◌, length, IfErr};
+ghost use Rattle.format.specs.Call.{lookup_words, directory_part, directory_path};
 ghost use Rattle.format.specs.Call as calls;
 ghost use Rattle.format.specs.Demand.{CheckDemand, LookupKept, LongestDemand, OpensWithin};
 ghost use Rattle.format.specs.declared.Reading.TheVariants.{Short, Long};
-ghost use Rattle.tables.specs.Tables.{part_of};
+ghost use Rattle.icon_cache.specs.Answers.{directory_answer, part_answer};
 
 use checking::{check_buckets, refused, unfound};
-use format::{CheckAnswer, DirectoryAnswer, DirectoryPart, Fault, Found, LookupAnswer, Reading};
+use format::{CheckAnswer, Fault, Found, LookupAnswer, Reading};
 use records::with_images;
 use tables::PathPart;
 
@@ -93,8 +92,9 @@ pub fn lookup(cache: &[u8], name: &[u8], words: &mut [u32]) -> LookupAnswer
 
 // Where the path of directory `index` stands: first the header is judged, then the index, then the
 // path.
-fn path_part(cache: &[u8], index: usize) -> Result<PathPart, Fault>
-    ensures { result ≡ outcome (directory_fault cache.now index) (part_of cache.now index) }
+pub fn directory_part(cache: &[u8], index: usize) -> Result<PathPart, Fault>
+    ensures answer { part_answer result ≡ directory_part cache.now index }
+    ensures refused { IfErr result (λ fault. 0 < fault.number) }
 {
     tables::header(cache)?;
     let t = tables::read(cache);
@@ -107,35 +107,13 @@ fn path_part(cache: &[u8], index: usize) -> Result<PathPart, Fault>
     tables::path(cache, t, index as u32)
 }
 
-// Whether there is a directory `index` with a path that keeps the rules, and where the path stands.
-pub fn directory_part(cache: &[u8], index: usize) -> DirectoryPart
-    ensures { result ≡ directory_part cache.now index }
-{
-    match path_part(cache, index) {
-        Ok(path) => DirectoryPart {
-            number: 0,
-            place: 0,
-            start: path.start,
-            length: path.length,
-        },
-        Err(fault) => DirectoryPart {
-            number: fault.number,
-            place: fault.place,
-            start: 0,
-            length: 0,
-        },
-    }
-}
-
 // Whether there is a directory `index` with a path that keeps the rules.
-pub fn directory(cache: &[u8], index: usize) -> DirectoryAnswer
-    ensures { result ≡ calls.directory cache.now index }
+pub fn directory(cache: &[u8], index: usize) -> Result<(), Fault>
+    ensures answer { directory_answer result ≡ calls.directory cache.now index }
+    ensures refused { IfErr result (λ fault. 0 < fault.number) }
 {
-    let part = directory_part(cache, index);
-    DirectoryAnswer {
-        number: part.number,
-        place: part.place,
-    }
+    directory_part(cache, index)?;
+    Ok(())
 }
 
 // The path of directory `index` as a part of `cache`, without its zero byte; empty where
@@ -143,8 +121,9 @@ pub fn directory(cache: &[u8], index: usize) -> DirectoryAnswer
 pub fn directory_path(cache: &[u8], index: usize) -> &[u8]
     ensures { result.now ≡ directory_path cache.now index }
 {
-    let part = directory_part(cache, index);
-    let start = part.start;
-    let end = start + part.length;
-    &cache[start..end]
+    let Ok(part) = directory_part(cache, index) else {
+        return &[];
+    };
+    let end = part.start + part.length;
+    &cache[part.start..end]
 }

@@ -1,0 +1,2 @@
+-- What the results of the calls say.
+pub mod Answers
