@@ -10,8 +10,7 @@ use Rattle.format.specs.Record.{name_fault, list_fault, record_fault}
 use Rattle.format.specs.Chain.{link_fault, follow, chain}
 use Rattle.format.specs.Call.{first_named, search_bucket, query_fault, find}
 use Rattle.format.specs.Farm.{farm, cow, patched}
-use Rattle.pick.specs.Pick.{serves, fits, first_image, words_fault, pick_is, pick}
-use Rattle.pick.specs.declared.PickAnswer.{PickAnswer}
+use Rattle.pick.specs.Pick.{PickAnswer, serves, fits, first_image, words_fault, pick_is, pick}
 
 -- the six words of a directory
 unfoldable pub fixed : ℕ → ℕ → List ℕ

@@ -1,6 +1,6 @@
 -- Which image of an icon serves a screen of a size and a scale, and what `pick` answers: document
 -- 02, request 6, with source document 002's keys of a directory.
-use Rattle.std.specs.Prelude.{ℕ, zero, suc, ◌+◌, ◌-◌, ◌*◌, List, Bool, false, ◌&&◌, length, get_or, leb, eqb, if◌then◌else◌}
+use Rattle.std.specs.Prelude.{ℕ, zero, suc, ◌+◌, ◌-◌, ◌*◌, List, Bool, false, ◌&&◌, length, get_or, leb, eqb, if◌then◌else◌, Option, Some, None, Result, Ok, Err}
 use Rattle.format.specs.Layout.{entries_at, image_size, index_field, no_directory}
 use Rattle.format.specs.Number.{be}
 use Rattle.format.specs.Fault.{fault, unless, ◌or_else◌, if_kept, first_fault, step_on}
@@ -11,7 +11,6 @@ use Rattle.format.specs.declared.Fault.{Fault}
 use Rattle.pick.specs.declared.Kind.{Kind}
 use Rattle.pick.specs.declared.Kind.TheVariants.{Fixed, Scalable, Threshold}
 use Rattle.pick.specs.declared.Sizes.{Sizes}
-use Rattle.pick.specs.declared.PickAnswer.{PickAnswer}
 
 -- the type that a word names, by its name in source document 002; one above 2 names none, and is
 -- refused before a size is compared
@@ -77,6 +76,12 @@ kinds_fault n w = first_fault (kind_fault w) (step_on words_each) n 0
 unfoldable pub words_fault : List ℕ → List ℕ → Fault
 words_fault s w = unless (eqb (length w) (words_each * directories s)) 31 0 or_else kinds_fault (directories s) w
 
+-- What a pick answers: with number 0 the place of the first image that fits, or 0 if none does; with
+-- 32 the index of the word among those lent; with any other number the place of the fault.
+pub record PickAnswer : Type 0 where
+  pub number : ℕ
+  pub place : ℕ
+
 -- the answer: number n at p
 abbrev pub pick_is : ℕ → ℕ → PickAnswer
 pick_is n p = record { number = n; place = p }
@@ -90,3 +95,13 @@ pick s name size scale w =
     let v = fault a.number a.place or_else words_fault s w in
     let p = first_image (fits w size scale s) (images s r) (entries_at (images_at s r)) in
     pick_is v.number (if_kept v p v.place)
+
+-- the place that there may be, or 0
+abbrev pub place_of : Option ℕ → ℕ
+place_of None = 0
+place_of (Some p) = p
+
+-- the answer that a call's result is
+abbrev pub pick_answer : Result (Option ℕ) Fault → PickAnswer
+pick_answer (Ok picked) = pick_is 0 (place_of picked)
+pick_answer (Err v) = pick_is v.number v.place

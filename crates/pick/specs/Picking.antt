@@ -6,9 +6,8 @@ use Rattle.format.specs.Number.{be}
 use Rattle.format.specs.Header.{directories}
 use Rattle.format.specs.Record.{images_at, images}
 use Rattle.format.specs.Call.{lookup}
-use Rattle.pick.specs.Pick.{words_each, fits, pick_is, pick}
+use Rattle.pick.specs.Pick.{PickAnswer, words_each, fits, pick_is, pick}
 use Rattle.format.specs.declared.LookupAnswer.{LookupAnswer}
-use Rattle.pick.specs.declared.PickAnswer.{PickAnswer}
 
 -- six words are lent for each directory
 abbrev pub SixEach : List ℕ → List ℕ → Type 0

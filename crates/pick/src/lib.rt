@@ -2,24 +2,16 @@
 // caller lends six words for each directory of the cache, and the images are read where they stand.
 #![tactic(auto)]
 
-ghost use Rattle.std.specs.Prelude.{◌≡◌, true, ◌+◌, ◌*◌, ◌≤◌, length};
+ghost use Rattle.std.specs.Prelude.{◌≡◌, true, ◌+◌, ◌*◌, ◌≤◌, ◌<◌, length, IfSome, IfOk, IfErr};
 ghost use Rattle.format.specs.Number.{be};
 ghost use Rattle.format.specs.Fault.{verdict};
 ghost use Rattle.format.specs.Header.{header_fault, directories};
 ghost use Rattle.format.specs.Record.{valid_index, images_fault};
-ghost use Rattle.pick.specs.Pick.{sizes_of, kinds_fault, words_fault, first_image};
+ghost use Rattle.pick.specs.Pick.{sizes_of, kinds_fault, words_fault, first_image, place_of, pick_answer};
 ghost use Rattle.pick.specs.Pick as definition;
 
 use bigendian::{u16_at, u32_at};
 use format::Fault;
-
-// With number 0 the offset of the first image that fits, or 0 if none does; with 32 the index of
-// the word in the slice; with any other number the place of the fault.
-#[derive(Clone, Copy)]
-pub struct PickAnswer {
-    pub number: u32,
-    pub place: usize,
-}
 
 // The types of directories.
 #[derive(Clone, Copy)]
@@ -109,20 +101,29 @@ fn fits(cache: &[u8], at: usize, size: u32, scale: u32, words: &[u32]) -> bool
     serves(sizes_of(words, index), size, scale)
 }
 
-// The first of `m` images from `at` on that fits, or 0.
-fn first_image(cache: &[u8], at: usize, m: u32, size: u32, scale: u32, words: &[u32]) -> usize
+// The first of `m` images from `at` on that fits.
+fn first_image(
+    cache: &[u8],
+    at: usize,
+    m: u32,
+    size: u32,
+    scale: u32,
+    words: &[u32],
+) -> Option<usize>
+    requires at_some { 0 < at }
     requires m_in_bounds { at + 8 * m ≤ length cache.now }
     requires at_value { (images_fault m cache.now at).number ≡ 0 }
     requires words_len { length words.now ≡ 6 * directories cache.now }
-    ensures { result ≡ first_image (definition.fits words.now size scale cache.now) m at }
+    ensures image { place_of result ≡ first_image (definition.fits words.now size scale cache.now) m at }
+    ensures some { IfSome result (λ p. 0 < p) }
 {
     for i in 0..m as usize {
         let here = at + 8 * i;
         if fits(cache, here, size, scale, words) {
-            return here;
+            return Some(here);
         }
     }
-    0
+    None
 }
 
 // 32 at the first type above 2, of `n` directories.
@@ -160,28 +161,28 @@ fn judge_words(cache: &[u8], words: &[u32]) -> Result<(), Fault>
 
 // The place of the first image of `name`, in the order of its list, whose directory fits: its scale
 // is `scale`, and `size` is its Size (Fixed), from its MinSize to its MaxSize (Scalable), or at
-// most its Threshold away from its Size (Threshold). Place 0 says that none fits. It refuses as the
-// lookup does with room enough, then with 31, then with 32.
-pub fn pick(cache: &[u8], name: &[u8], size: u32, scale: u32, directories: &[u32]) -> PickAnswer
-    ensures { result ≡ definition.pick cache.now name.now size scale directories.now }
+// most its Threshold away from its Size (Threshold). It refuses as the lookup does with room
+// enough, then with 31, then with 32, whose place is the index of the word in the slice.
+pub fn pick(
+    cache: &[u8],
+    name: &[u8],
+    size: u32,
+    scale: u32,
+    directories: &[u32],
+) -> Result<Option<usize>, Fault>
+    ensures answer { pick_answer result ≡ definition.pick cache.now name.now size scale directories.now }
+    ensures refused { IfErr result (λ fault. 0 < fault.number) }
+    ensures some { IfOk result (λ picked. IfSome picked (λ p. 0 < p)) }
 {
     let found = icon_cache::find(cache, name);
     if found.number != 0 {
-        return PickAnswer {
+        return Err(Fault {
             number: found.number,
             place: found.place,
-        };
+        });
     }
-    if let Err(fault) = judge_words(cache, directories) {
-        return PickAnswer {
-            number: fault.number,
-            place: fault.place,
-        };
-    }
+    judge_words(cache, directories)?;
     let at = u32_at(cache, found.place + 8) as usize;
     let images = u32_at(cache, at);
-    PickAnswer {
-        number: 0,
-        place: first_image(cache, at + 4, images, size, scale, directories),
-    }
+    Ok(first_image(cache, at + 4, images, size, scale, directories))
 }

@@ -16,8 +16,7 @@ use Rattle.format.proofs.Laws.Rules.{record-valid}
 use Rattle.format.proofs.Laws.LookupAnswers.{found-keeps}
 use Rattle.format.proofs.Laws.LookupNumbers.{lookup-enough}
 use Rattle.format.specs.declared.Reading.TheVariants.{Short}
-use Rattle.pick.specs.Pick.{fits, first_image, kind_fault, words_fault, pick_is, pick}
-use Rattle.pick.specs.declared.PickAnswer.{PickAnswer}
+use Rattle.pick.specs.Pick.{PickAnswer, fits, first_image, kind_fault, words_fault, pick_is, pick}
 use Rattle.pick.specs.Picking.{SixEach, type_word, Described, FirstUnknown, image_at, FirstFits, NoneFits, Case, miscounted, unknown-type, first_fits, none-fits, answer_in, RealImage, Picks}
 use Rattle.pick.proofs.Laws.Fitting.{index_below, fits-nowhere, image-at, image-nowhere, nowhere-image}
 use Rattle.pick.proofs.Laws.Answer.{words-miscounted, words-counted, pick-unfound, pick-undescribed, pick_first}

@@ -6,16 +6,13 @@ use Rattle.format.proofs.Laws.Faults.{first-none, unless-none}
 use Rattle.pick.proofs.Laws.Fitting.{image-none, image-here, image-later}
 use Rattle.pick.proofs.first_image.Goals as goal
 
-pub loop-i-init : goal.loop-i-init
-loop-i-init c = record { kept = grind (arith, c.requires.at_value); rest = grind arith }
-
-pub fits-requires : goal.fits-requires
-fits-requires c =
+pub fits-requires-clause-at_value : goal.fits-requires-clause-at_value
+fits-requires-clause-at_value c =
     let first = (first-none _ _ _ _ (c.args.m - (c.loop-i.i + 1)) (omega arith) c.loop-i.invariant.kept).0 in
-    record { at_in_bounds = omega arith; at_value = ((and-eq-true_iff _ _).0 (unless-none _ _ _ first)).0; words_len = c.requires.words_len }
+    ((and-eq-true_iff _ _).0 (unless-none _ _ _ first)).0
 
-pub returns-then-fits : goal.returns-then-fits
-returns-then-fits c = sym (image-here _ _ _ (omega arith) (sym c.fits.ensures ∙ c.if-fits.true)) ∙ c.loop-i.invariant.rest
+pub returns-then-fits-clause-image : goal.returns-then-fits-clause-image
+returns-then-fits-clause-image c = sym (image-here _ _ _ (omega arith) (sym c.fits.ensures ∙ c.if-fits.true)) ∙ c.loop-i.invariant.rest
 
 pub loop-i-preserved : goal.loop-i-preserved
 loop-i-preserved c =
@@ -27,5 +24,5 @@ loop-i-preserved c =
       rest = rw here (sym (image-later _ _ _ (a.m - (i + 1)) (omega arith) (sym c.fits.ensures ∙ c.if-fits.false)) ∙ c.loop-i.invariant.rest);
     }
 
-pub returns : goal.returns
-returns c = sym (image-none _ _ _ (omega arith)) ∙ c.loop-i.invariant.rest
+pub returns-clause-image : goal.returns-clause-image
+returns-clause-image c = sym (image-none _ _ _ (omega arith)) ∙ c.loop-i.invariant.rest
