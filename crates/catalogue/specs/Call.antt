@@ -1,6 +1,6 @@
 -- What `write` and `catalogue_of` answer, and what they leave in the lent bytes: document 02,
 -- request 8.
-use Rattle.std.specs.Prelude.{ℕ, List, [], ◌++◌, Bool, ◌&&◌, length, drop, ltb, leb}
+use Rattle.std.specs.Prelude.{ℕ, List, [], ◌++◌, Bool, ◌&&◌, length, drop, ltb, leb, Result, Ok, Err}
 use Rattle.format.specs.Layout.{most_bytes}
 use Rattle.format.specs.Fault.{fault, unless, ◌or_else◌, if_kept}
 use Rattle.format.specs.Chain.{all_records}
@@ -12,11 +12,22 @@ use Rattle.catalogue.specs.Fields.{catalogue_in}
 use Rattle.catalogue.specs.Repeats.{repeat_fault, catalogue_fault}
 use Rattle.catalogue.specs.Written.{written_size, written}
 use Rattle.catalogue.specs.Listed.{listed, record_uses}
-use Rattle.catalogue.specs.declared.WriteAnswer.{WriteAnswer}
+
+-- what a call answers that writes into lent bytes: with number 0 how many it wrote, place 0; with a
+-- refusal its number and place, and length 0
+pub record WriteAnswer : Type 0 where
+  pub number : ℕ
+  pub place : ℕ
+  pub length : ℕ
 
 -- number n at p, with l bytes written
 abbrev pub write_is : ℕ → ℕ → ℕ → WriteAnswer
 write_is n p l = record { number = n; place = p; length = l }
+
+-- the answer of a call that tells how many bytes it wrote, or which refusal there is
+abbrev pub write_answer : Result ℕ Fault → WriteAnswer
+write_answer (Ok n) = write_is 0 0 n
+write_answer (Err v) = write_is v.number v.place 0
 
 -- the answer after a judgement, where l bytes are to be written; with a refusal the length is 0
 abbrev pub answer_to : Fault → ℕ → WriteAnswer

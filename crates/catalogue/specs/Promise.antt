@@ -12,8 +12,7 @@ use Rattle.catalogue.specs.LaidOut.{Places, Lays}
 use Rattle.catalogue.specs.Serves.{Serves}
 use Rattle.catalogue.specs.Written.{places}
 use Rattle.catalogue.specs.Listed.{offset_order, listed}
-use Rattle.catalogue.specs.Call.{write_is, allowed_buckets, written_bytes, write, write_leaves, listed_bytes, catalogue_of, catalogue_leaves}
-use Rattle.catalogue.specs.declared.WriteAnswer.{WriteAnswer}
+use Rattle.catalogue.specs.Call.{WriteAnswer, write_is, allowed_buckets, written_bytes, write, write_leaves, listed_bytes, catalogue_of, catalogue_leaves}
 
 -- of bytes that are judged good: the catalogue that they say is good, and they are its bytes
 pub record Says (c : List ℕ) : Type 0 where

@@ -9,8 +9,7 @@ use Rattle.format.specs.Chain.{all_records}
 use Rattle.format.specs.Call.{check}
 use Rattle.format.specs.declared.Fault.{Fault}
 use Rattle.format.specs.declared.Reading.TheVariants.{Short}
-use Rattle.catalogue.specs.Call.{allowed_size, answer_to, left_by}
-use Rattle.catalogue.specs.declared.WriteAnswer.{WriteAnswer}
+use Rattle.catalogue.specs.Call.{WriteAnswer, allowed_size, answer_to, left_by}
 use Rattle.squeeze_spec.specs.Squeezed.{contents, squeezed}
 use Rattle.squeeze_spec.specs.Packed.{packed_size}
 

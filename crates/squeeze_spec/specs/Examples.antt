@@ -15,8 +15,7 @@ use Rattle.format.specs.Bytes.{bytes, joined, put}
 use Rattle.catalogue.specs.Row.{row}
 use Rattle.catalogue.specs.LaidOut.{first_in}
 use Rattle.catalogue.specs.Listed.{firsts}
-use Rattle.catalogue.specs.Call.{write_is}
-use Rattle.catalogue.specs.declared.WriteAnswer.{WriteAnswer}
+use Rattle.catalogue.specs.Call.{WriteAnswer, write_is}
 use Rattle.catalogue.specs.Examples.Catalogues.{hen, farm_written, same_answer, all}
 use Rattle.squeeze_spec.specs.Uses.{first_with, added}
 use Rattle.squeeze_spec.specs.Packed.{packed}

@@ -1,6 +1,6 @@
 -- Of a call of the writer or the reader: what is answered and left, what is known where nothing is
 -- refused, and that a good catalogue is taken.
-use Rattle.std.specs.Prelude.{ℕ, ◌+◌, ◌≤◌, ◌<◌, ◌≡◌, ◌⊎◌, List, [], ◌++◌, Bool, length, drop, leb}
+use Rattle.std.specs.Prelude.{ℕ, ◌≤◌, ◌<◌, ◌≡◌, ◌⊎◌, List, [], ◌++◌, Bool, length, drop, leb}
 use Rattle.std.proofs.Math.Path.{refl}
 use Rattle.std.proofs.Common.{ap, ◌∙◌, ltb-true, leb-true}
 use Rattle.std.proofs.Math.Logic.{inl, inr}

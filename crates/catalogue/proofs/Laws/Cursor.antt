@@ -1,5 +1,5 @@
 -- The icons of bytes that are judged good, one by one, as a loop over them meets them.
-use Rattle.std.specs.Prelude.{ℕ, ◌<◌, ◌≡◌, List, true}
+use Rattle.std.specs.Prelude.{ℕ, ◌<◌, ◌≡◌, List}
 use Rattle.std.proofs.Math.Bool.{and-eq-true_iff}
 use Rattle.std.proofs.Common.{leb-true}
 use Rattle.format.proofs.Laws.Faults.{or_else-none, unless-none}

@@ -18,7 +18,7 @@ use Rattle.catalogue.proofs.Laws.Stands.{stands-first, stands-next, stands-part,
 use Rattle.catalogue.proofs.Laws.Putting.{stands_after, stands-before, put-known, stands-changed}
 use Rattle.catalogue.proofs.Laws.Tables.{header-length, record-length}
 use Rattle.catalogue.proofs.Laws.Append.{Last, nothing, last, last-is, Begins, Follows, begins, follows}
-use Rattle.catalogue.proofs.Laws.Front.{record_with, entries, tables, tables-length, records-size, front_length, begun, new-length, begun-length, PartsStand, parts-stand, assembled}
+use Rattle.catalogue.proofs.Laws.Front.{record_with, entries, tables-length, records-size, front_length, begun, new-length, begun-length, PartsStand, parts-stand, assembled}
 
 -- records stand where the writer puts them, and no offset of one is the end value
 module _ (d : Catalogue) (b : ℕ) (q : Places) (some : 0 < b) (n : ℕ)

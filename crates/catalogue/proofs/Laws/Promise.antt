@@ -1,9 +1,9 @@
 -- What request 8 promises is kept.
-use Rattle.std.specs.Prelude.{ℕ, ◌+◌, ◌≤◌, ◌<◌, ◌≡◌, ◌++◌, drop}
+use Rattle.std.specs.Prelude.{ℕ, ◌≤◌, ◌<◌, ◌≡◌, ◌++◌, drop}
 use Rattle.std.proofs.Common.{sym, ◌∙◌, arith, le-leb}
 use Rattle.std.proofs.Math.Path.{ap}
 use Rattle.std.proofs.Math.ListN.{length}
-use Rattle.format.specs.Fault.{no_fault, ◌or_else◌}
+use Rattle.format.specs.Fault.{no_fault}
 use Rattle.format.specs.Chain.{all_records}
 use Rattle.format.specs.declared.CheckAnswer.{CheckAnswer}
 use Rattle.format.proofs.Laws.Faults.{or_else-next, kept-passes, same_number, unless-kept}

@@ -5,8 +5,7 @@ use Rattle.format.specs.String.{same_bytes}
 use Rattle.format.specs.Farm.{cow, oat, lent}
 use Rattle.catalogue.specs.Catalogue.{Catalogue, image_is, icon_is, catalogue_is}
 use Rattle.catalogue.specs.Repeats.{catalogue_fault}
-use Rattle.catalogue.specs.Call.{write_is, write, write_leaves, catalogue_of, catalogue_leaves}
-use Rattle.catalogue.specs.declared.WriteAnswer.{WriteAnswer}
+use Rattle.catalogue.specs.Call.{WriteAnswer, write_is, write, write_leaves, catalogue_of, catalogue_leaves}
 
 unfoldable pub hen : List ℕ
 hen = 104 ∷ 101 ∷ 110 ∷ []
