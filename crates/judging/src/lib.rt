@@ -7,26 +7,13 @@ ghost use Rattle.format.specs.Fault.{verdict};
 ghost use Rattle.catalogue.specs.Fields.{path_end, icon_end, path_count, icon_count_at};
 ghost use Rattle.catalogue.specs.Judgement.{path_fields_fault, icon_fields_fault, fields_fault};
 ghost use Rattle.catalogue.specs.Repeats.{catalogue_fault};
-ghost use Rattle.catalogue.specs.Call.{write_is};
 ghost use Rattle.entries.specs.Judged.{row_judged};
 ghost use Rattle.judging.specs.Judging.{icons_fault, parted, Listed, repeat_from};
 
 use bigendian::{byte, u16_at};
-use catalogue::WriteAnswer;
 use entries::{icon, path};
 use format::Fault;
 use keys::Kind;
-
-// The answer of a call that is refused.
-pub fn refusal(number: u32, place: usize) -> WriteAnswer
-    ensures { result ≡ write_is number place 0 }
-{
-    WriteAnswer {
-        number,
-        place,
-        length: 0,
-    }
-}
 
 // Where the parts of a good catalogue stand: how many paths and icons it has, and where the first
 // icon begins.

@@ -4,17 +4,17 @@
 
 mod appending;
 
-ghost use Rattle.std.specs.Prelude.{◌≡◌, length};
+ghost use Rattle.std.specs.Prelude.{◌≡◌, ◌<◌, length, IfErr};
 ghost use Rattle.format.specs.Bytes.{put};
 ghost use Rattle.catalogue.specs.Fields.{catalogue_in};
 ghost use Rattle.catalogue.specs.Written.{written};
-ghost use Rattle.catalogue.specs.Call.{write_leaves};
+ghost use Rattle.catalogue.specs.Call.{write_answer, write_leaves};
 ghost use Rattle.catalogue.specs.Call as calls;
 ghost use Rattle.passes.specs.Passes.{Judged};
 ghost use Rattle.write_cache.specs.Appending.{Fits};
 
-use catalogue::WriteAnswer;
-use judging::{Parts, refusal};
+use format::Fault;
+use judging::Parts;
 use passes::{head, putting, sizes};
 
 // Puts the cache of a good catalogue into `out`, which has room for it.
@@ -45,29 +45,27 @@ fn fill(catalogue: &[u8], parts: Parts, buckets: usize, out: &mut [u8])
     putting::names(catalogue, first, icons, out, begins.names);
 }
 
-// Writes the cache of `catalogue` with so many buckets into `cache`. All is judged before the first
-// byte is written.
-pub fn write(catalogue: &[u8], buckets: usize, cache: &mut [u8]) -> WriteAnswer
-    ensures answer { result ≡ calls.write catalogue.now buckets (length cache.old) }
+// Writes the cache of `catalogue` with so many buckets into `cache`, and says how many bytes it has.
+// All is judged before the first byte is written.
+pub fn write(catalogue: &[u8], buckets: usize, cache: &mut [u8]) -> Result<usize, Fault>
+    ensures answer { write_answer result ≡ calls.write catalogue.now buckets (length cache.old) }
+    ensures refused { IfErr result (λ fault. 0 < fault.number) }
     ensures lent { cache.new ≡ write_leaves catalogue.now buckets cache.old }
 {
-    let parts = match judging::judge(catalogue) {
-        Ok(parts) => parts,
-        Err(fault) => {
-            return refusal(fault.number, fault.place);
-        }
-    };
+    let parts = judging::judge(catalogue)?;
     if buckets == 0 || 4096 < buckets {
-        return refusal(18, 0);
+        return Err(Fault {
+            number: 18,
+            place: 0,
+        });
     }
     let length = sizes::size(catalogue, parts, buckets);
     if cache.len() < length || 16777216 < length {
-        return refusal(19, 0);
+        return Err(Fault {
+            number: 19,
+            place: 0,
+        });
     }
     fill(catalogue, parts, buckets, cache);
-    WriteAnswer {
-        number: 0,
-        place: 0,
-        length,
-    }
+    Ok(length)
 }

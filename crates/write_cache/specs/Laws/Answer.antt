@@ -1,5 +1,5 @@
 -- What the writer answers and leaves, by what is judged first.
-use Rattle.std.specs.Prelude.{ℕ, ◌≤◌, ◌<◌, ◌≡◌, List, ◌++◌, ◌⊎◌, true, false, length, Ok}
+use Rattle.std.specs.Prelude.{ℕ, ◌≤◌, ◌<◌, ◌≡◌, List, ◌++◌, ◌⊎◌, true, false, length, Ok, Err}
 use Rattle.std.proofs.Common.{ap, ◌∙◌, ⊎_elim, arith, lt-ltb, le-leb}
 use Rattle.std.proofs.Math.Bool.{and-false}
 use Rattle.std.proofs.Math.Nat.{zero-add}
@@ -13,8 +13,7 @@ use Rattle.format.proofs.Laws.Faults.{broken-takes, or_else-first, or_else-next,
 use Rattle.catalogue.specs.Fields.{AreBytes, path_count, icon_count_at, catalogue_in}
 use Rattle.catalogue.specs.Repeats.{catalogue_fault}
 use Rattle.catalogue.specs.Written.{written_size, written}
-use Rattle.catalogue.specs.Call.{write_is, allowed_buckets, allowed_size, write_fault, write, write_leaves}
-use Rattle.catalogue.specs.declared.WriteAnswer.{WriteAnswer}
+use Rattle.catalogue.specs.Call.{write_answer, allowed_buckets, allowed_size, write_fault, write, write_leaves}
 use Rattle.judging.specs.Judging.{parts_at, parted}
 use Rattle.judging.specs.declared.Parts.{Parts}
 use Rattle.passes.specs.Passes.{Judged}
@@ -52,9 +51,9 @@ module _ (c : List ℕ) (b : ℕ) (lent : List ℕ) where
 
   -- a refusal, and what it leaves
   module _ {v : Fault} (e : write_fault c b room ≡ v) (broken : v.number ≡ 0 → ⊥) where
-    pub write-refused : {a : WriteAnswer} → a ≡ write_is v.number v.place 0 → a ≡ write c b room
+    pub write-refused : write_answer (Err v) ≡ write c b room
     unfolding write
-    write-refused told = told ∙ rw (e, broken-takes v (written_size (catalogue_in c) b) 0 broken)
+    write-refused = rw (e, broken-takes v (written_size (catalogue_in c) b) 0 broken)
 
     pub leaves_all : lent ≡ write_leaves c b lent
     unfolding write_leaves
@@ -81,7 +80,7 @@ module _ (c : List ℕ) (b : ℕ) (lent : List ℕ) where
         unfolding write_fault
         none = or_else-next _ _ good ∙ kept-passes (allowed_buckets b) 18 0 _ some ∙ rw fits
 
-        pub write_done : write_is 0 0 (written_size (catalogue_in c) b) ≡ write c b room
+        pub write_done : write_answer (Ok (written_size (catalogue_in c) b)) ≡ write c b room
         unfolding write
         write_done = rw none
 
