@@ -9,7 +9,7 @@ use Rattle.export.proofs.catalogue_of.Goals as goal
 pub returns-then-check-ne0 : goal.returns-then-check-ne0
 returns-then-check-ne0 c =
     let told = check-refuses c.args.cache.now c.args.catalogue.now c.check_short-check.ensures.answer c.if-check-ne0.true in
-    record { answer = c.refusal.ensures ∙ told.0; lent = told.1 }
+    record { answer = told.answer; refused = told.refused; lent = told.leaves }
 
 pub read-t-requires : goal.read-t-requires
 read-t-requires c = tables-keep-header _ (c.check_short-check.ensures.demand.accepted.0 c.if-check-ne0.false).tables-kept
