@@ -2,27 +2,23 @@
 // went.
 #![tactic(auto)]
 
-ghost use Rattle.std.specs.Prelude.{◌≡◌, ◌≤◌, length};
+ghost use Rattle.std.specs.Prelude.{◌≡◌, ◌≤◌, ◌<◌, length, IfErr};
 ghost use Rattle.tables.specs.Tables.{TablesOf};
 ghost use Rattle.salvage_spec.specs.Call as calls;
 ghost use Rattle.salvage.specs.Pass.{Passes, Measures};
+ghost use Rattle.salvage.specs.Answer.{salvage_answer};
 
 use filling::short;
+use format::Fault;
 use salvage_paths::close_up;
-use salvage_spec::SalvageAnswer;
 use salvage_walk::{Sums, chains};
 use tables::Tables;
 
-// The answer to a call that is refused.
-fn refusal(number: u32, place: usize) -> SalvageAnswer
-    ensures { result ≡ calls.salvage_is number place 0 0 }
-{
-    SalvageAnswer {
-        number,
-        place,
-        length: 0,
-        rows: 0,
-    }
+// How many bytes the catalogue has that was saved, and how many rows the report.
+#[derive(Clone, Copy)]
+pub struct Saved {
+    pub length: usize,
+    pub rows: usize,
 }
 
 // Puts the catalogue and the report, each part if there is room for it, and says how large they
@@ -72,42 +68,49 @@ fn save(
     index: &mut [u32],
     catalogue: &mut [u8],
     report: &mut [u32],
-) -> SalvageAnswer
+) -> Result<Saved, Fault>
     requires { TablesOf cache.now t × (65536 ≤ length closed.old) × (65536 ≤ length index.old) }
-    ensures answer { result ≡ calls.salvage cache.now (length catalogue.old) (length report.old) }
+    ensures answer { salvage_answer result ≡ calls.salvage cache.now (length catalogue.old) (length report.old) }
+    ensures refused { IfErr result (λ fault. 0 < fault.number) }
     ensures bytes { catalogue.new ≡ calls.bytes_left_of cache.now catalogue.old report.old }
     ensures words { report.new ≡ calls.words_left_of cache.now catalogue.old report.old }
 {
     let sizes = measure(cache, t, closed, index);
     if 65535 < sizes.icons {
-        return refusal(21, 0);
+        return Err(Fault {
+            number: 21,
+            place: 0,
+        });
     }
     if catalogue.len() < sizes.bytes {
-        return refusal(19, 0);
+        return Err(Fault {
+            number: 19,
+            place: 0,
+        });
     }
     if report.len() < sizes.words {
-        return refusal(19, 0);
+        return Err(Fault {
+            number: 19,
+            place: 0,
+        });
     }
     pass(cache, t, closed, index, catalogue, report);
-    SalvageAnswer {
-        number: 0,
-        place: 0,
+    Ok(Saved {
         length: sizes.bytes,
         rows: sizes.words / 2,
-    }
+    })
 }
 
 // Puts a catalogue of what is sound in a cache into `catalogue`, and a report of what went into
 // `report`, two words to a row; with a refusal nothing is written. The names of a chain and the new
 // indexes of the directories stand on the stack: 384 KiB.
-pub fn salvage(cache: &[u8], catalogue: &mut [u8], report: &mut [u32]) -> SalvageAnswer
-    ensures answer { result ≡ calls.salvage cache.now (length catalogue.old) (length report.old) }
+pub fn salvage(cache: &[u8], catalogue: &mut [u8], report: &mut [u32]) -> Result<Saved, Fault>
+    ensures answer { salvage_answer result ≡ calls.salvage cache.now (length catalogue.old) (length report.old) }
+    ensures refused { IfErr result (λ fault. 0 < fault.number) }
     ensures bytes { catalogue.new ≡ calls.bytes_left_of cache.now catalogue.old report.old }
     ensures words { report.new ≡ calls.words_left_of cache.now catalogue.old report.old }
 {
-    if let Err(fault) = tables::header(cache) {
-        return refusal(fault.number, fault.place);
-    }
+    tables::header(cache)?;
     let t = tables::read(cache);
     let mut closed: [u16; 65536] = [0; 65536];
     let mut index: [u32; 65536] = [0; 65536];

@@ -6,8 +6,15 @@ use Rattle.format.specs.Header.{header_fault}
 use Rattle.format.specs.declared.Fault.{Fault}
 use Rattle.catalogue.specs.Catalogue.{most_icons, catalogue_bytes}
 use Rattle.catalogue.specs.Call.{left_by}
-use Rattle.salvage_spec.specs.declared.SalvageAnswer.{SalvageAnswer}
 use Rattle.salvage_spec.specs.Salvage.{row, icons, catalogue, entries}
+
+-- what the call answers: with number 0 the length of the catalogue and the count of the report's
+-- rows, place 0; with a refusal its number and place, and both 0
+pub record SalvageAnswer : Type 0 where
+  pub number : ℕ
+  pub place : ℕ
+  pub length : ℕ
+  pub rows : ℕ
 
 -- number n at p, with so many bytes and rows written
 abbrev pub salvage_is : ℕ → ℕ → ℕ → ℕ → SalvageAnswer

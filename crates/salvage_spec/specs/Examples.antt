@@ -10,11 +10,10 @@ use Rattle.format.specs.Header.{header_fault, path_fault}
 use Rattle.format.specs.Record.{name_fault}
 use Rattle.format.specs.Words.{link, link_field}
 use Rattle.format.specs.Farm.{farm, looped, patched, lent, oat, cow}
-use Rattle.salvage_spec.specs.declared.SalvageAnswer.{SalvageAnswer}
 use Rattle.salvage_spec.specs.Lists.{first_failing}
 use Rattle.salvage_spec.specs.Meetings.{named_below, passed, cut_at, met, cut, fate_among, kept_names, fate}
 use Rattle.salvage_spec.specs.Salvage.{paths_below, kept_image, icon, chain_icons, icons, catalogue, row, image_entries, meeting_entries, chain_entries, path_entries, entries}
-use Rattle.salvage_spec.specs.Call.{salvage_is, salvage_fault, salvage, bytes_left_of, words_left_of}
+use Rattle.salvage_spec.specs.Call.{SalvageAnswer, salvage_is, salvage_fault, salvage, bytes_left_of, words_left_of}
 
 -- a buffer, the room lent in bytes and in words, and what has to come of it: the answer, and what
 -- is written to the front of both

@@ -1,7 +1,7 @@
 -- The answer, and what is left in both buffers, by what is refused first.
-use Rattle.std.specs.Prelude.{ℕ, ◌/◌, ◌≤◌, ◌<◌, ◌≡◌, ◌⊎◌, List, ◌++◌, ◌&&◌}
+use Rattle.std.specs.Prelude.{ℕ, ◌/◌, ◌≤◌, ◌<◌, ◌≡◌, ◌⊎◌, List, ◌++◌, ◌&&◌, Result, Ok, Err, IfErr}
 use Rattle.std.proofs.Math.Path.{ap}
-use Rattle.std.proofs.Common.{◌∙◌, inl, inr, le-leb, lit≤}
+use Rattle.std.proofs.Common.{◌∙◌, inl, inr, le-leb, lit≤, arith}
 use Rattle.std.proofs.Math.Bool.{false, and-false}
 use Rattle.std.proofs.Math.Nat.{mul-div_right}
 use Rattle.std.proofs.lemmas.Bool.{lt-leb}
@@ -16,20 +16,23 @@ use Rattle.format.proofs.Laws.Put.{put_front}
 use Rattle.salvage_spec.specs.Salvage.{icons, entries}
 use Rattle.salvage_spec.specs.Call.{salvage_is, salvage_bytes, salvage_words, salvage_fault, salvage, bytes_left_of, words_left_of}
 use Rattle.salvage_spec.proofs.Laws.Pieces.{words_count}
-use Rattle.salvage_spec.specs.declared.SalvageAnswer.{SalvageAnswer}
+use Rattle.salvage.specs.Answer.{salvage_answer}
+use Rattle.salvage.specs.declared.Saved.{Saved}
 
--- what a call answers and leaves
-pub record Leaves (s bytes words : List ℕ) (a : SalvageAnswer) (d v : List ℕ) : Type 0 where
-  pub answer : a ≡ salvage s (length bytes) (length words)
+-- what a call answers and leaves; a refusal has a number
+pub record Leaves (s bytes words : List ℕ) (r : Result Saved Fault) (d v : List ℕ) : Type 0 where
+  pub answer : salvage_answer r ≡ salvage s (length bytes) (length words)
+  pub refused : IfErr r (λ x. 0 < x.number)
   pub bytes_left : d ≡ bytes_left_of s bytes words
   pub words_left : v ≡ words_left_of s bytes words
 
 module _ (s bytes words : List ℕ) where
   -- with a refusal nothing is written
-  pub refuses : {x : Fault} → salvage_fault s (length bytes) (length words) ≡ x → (x.number ≡ 0 → ⊥) → Leaves s bytes words (salvage_is x.number x.place 0 0) bytes words
+  pub refuses : {x : Fault} → salvage_fault s (length bytes) (length words) ≡ x → (x.number ≡ 0 → ⊥) → Leaves s bytes words (Err x) bytes words
   unfolding salvage bytes_left_of words_left_of
   refuses {x} e bad = record {
     answer = rw (e, broken-takes x (length (salvage_bytes s)) 0 bad, broken-takes x (length (entries s)) 0 bad);
+    refused = omega (arith, bad);
     bytes_left = rw (e, broken-takes x (salvage_bytes s ++ drop (length (salvage_bytes s)) bytes) bytes bad);
     words_left = rw (e, broken-takes x (salvage_words s ++ drop (length (salvage_words s)) words) words bad);
   }
@@ -66,12 +69,13 @@ module _ (s bytes words : List ℕ) where
             ∙ unless-kept (leb (length (salvage_bytes s)) (length bytes) && leb (length (salvage_words s)) (length words)) 19 0 (also (le-leb _ _ room) (le-leb _ _ rows))
 
         pub saves : {l m : ℕ} {d v : List ℕ} → l ≡ length (salvage_bytes s) → m ≡ length (salvage_words s) → d ≡ put bytes 0 (salvage_bytes s)
-            → v ≡ put words 0 (salvage_words s) → Leaves s bytes words (salvage_is 0 0 l (m / 2)) d v
+            → v ≡ put words 0 (salvage_words s) → Leaves s bytes words (Ok (record { length = l; rows = m / 2 })) d v
         unfolding salvage bytes_left_of words_left_of
         saves {m = m} size count d-is v-is =
             let half : m / 2 ≡ length (entries s) = ap (λ n. n / 2) (count ∙ words_count s) ∙ mul-div_right (length (entries s)) (lit≤ tt) in
             record {
               answer = rw (none-refused, half) (ap (λ n. salvage_is 0 0 n (length (entries s))) size);
+              refused = tt;
               bytes_left = rw none-refused (d-is ∙ put_front bytes (salvage_bytes s));
               words_left = rw none-refused (v-is ∙ put_front words (salvage_words s));
             }
