@@ -3,10 +3,11 @@
 // once.
 #![tactic(auto)]
 
-ghost use Rattle.std.specs.Prelude.{◌≡◌, ◌++◌, ◌^◌, ◌≤◌, ◌<◌, length, drop};
+ghost use Rattle.std.specs.Prelude.{◌≡◌, ◌++◌, ◌^◌, ◌≤◌, ◌<◌, length, drop, IfErr};
 ghost use Rattle.format.specs.Chain.{all_records};
 ghost use Rattle.format.specs.Header.{buckets};
 ghost use Rattle.format.specs.declared.Reading.TheVariants.{Short};
+ghost use Rattle.catalogue.specs.Call.{write_answer};
 ghost use Rattle.squeeze_spec.specs.Squeezed.{squeezed};
 ghost use Rattle.squeeze_spec.specs.Call.{data_fault, squeeze_leaves};
 ghost use Rattle.squeeze_spec.specs.Call as calls;
@@ -14,8 +15,7 @@ ghost use Rattle.tables.specs.Tables.{Sound};
 ghost use Rattle.squeeze.specs.Sizes.{SizesOf, Lent, size_of};
 ghost use Rattle.squeeze.specs.Laws.Whole.{Fits};
 
-use catalogue::WriteAnswer;
-use judging::refusal;
+use format::Fault;
 use passes::head;
 use squeeze_data::image_data;
 use squeeze_lists::lists;
@@ -97,7 +97,8 @@ fn size(t: Tables, sizes: Sizes) -> usize
     tables + 12 * sizes.icons + sizes.lists + sizes.strings
 }
 
-// Rewrites an accepted cache without image data and with few buckets: 19, and then its bytes.
+// Rewrites an accepted cache without image data and with few buckets: 19, and then its bytes. Says
+// how many these are.
 fn rewrite(
     cache: &[u8],
     t: Tables,
@@ -105,45 +106,53 @@ fn rewrite(
     places: &mut [u32],
     repeated: &[u32],
     out: &mut [u8],
-) -> WriteAnswer
+) -> Result<usize, Fault>
     requires { Sound cache.now t × Lent cache.now index.old places.old repeated.now × (buckets cache.now ≤ 4096) × ((data_fault cache.now (all_records Short cache.now)).number ≡ 0) }
-    ensures answer { result ≡ calls.squeeze cache.now (length out.old) }
+    ensures answer { write_answer result ≡ calls.squeeze cache.now (length out.old) }
+    ensures refused { IfErr result (λ fault. 0 < fault.number) }
     ensures lent { out.new ≡ squeeze_leaves cache.now out.old }
 {
     let sizes = measure(cache, t, index, places, repeated);
     let length = size(t, sizes);
     if out.len() < length {
-        return refusal(19, 0);
+        return Err(Fault {
+            number: 19,
+            place: 0,
+        });
     }
     if 16777216 < length {
-        return refusal(19, 0);
+        return Err(Fault {
+            number: 19,
+            place: 0,
+        });
     }
     fill(cache, t, index, places, repeated, out, sizes);
-    WriteAnswer {
-        number: 0,
-        place: 0,
-        length,
-    }
+    Ok(length)
 }
 
 // Squeezes `cache` into `squeezed`, if the check accepts it, it has at most 4,096 buckets and no
-// image data, and there is room; with a refusal nothing is written. The indexes and the marks stand
-// on the stack: 632 KiB.
-pub fn squeeze(cache: &[u8], squeezed: &mut [u8]) -> WriteAnswer
-    ensures answer { result ≡ calls.squeeze cache.now (length squeezed.old) }
+// image data, and there is room, and says how many bytes that are; with a refusal nothing is
+// written. The indexes and the marks stand on the stack: 632 KiB.
+pub fn squeeze(cache: &[u8], squeezed: &mut [u8]) -> Result<usize, Fault>
+    ensures answer { write_answer result ≡ calls.squeeze cache.now (length squeezed.old) }
+    ensures refused { IfErr result (λ fault. 0 < fault.number) }
     ensures lent { squeezed.new ≡ squeeze_leaves cache.now squeezed.old }
 {
     let check = icon_cache::check_short(cache);
     if check.number != 0 {
-        return refusal(check.number, check.place);
+        return Err(Fault {
+            number: check.number,
+            place: check.place,
+        });
     }
     let t = tables::read(cache);
     if 4096 < t.buckets {
-        return refusal(25, 4);
+        return Err(Fault {
+            number: 25,
+            place: 4,
+        });
     }
-    if let Err(fault) = image_data(cache, t) {
-        return refusal(fault.number, fault.place);
-    }
+    image_data(cache, t)?;
     let mut index: [u32; 65536] = [0; 65536];
     let mut places: [u32; 65536] = [0; 65536];
     let mut repeated: [u32; 30720] = [0; 30720];

@@ -7,13 +7,13 @@ pub returns-then-out-length : goal.returns-then-out-length
 returns-then-out-length c =
     let size = c.size-length.ensures ∙ size-measured c.requires.0 c.measure-sizes.ensures in
     let told = short-refused c.args.cache.now c.args.out.now (sound-checked c.requires.0) c.requires.2 c.requires.3 (omega (arith, size, c.if-out-length.true)) in
-    record { answer = c.refusal.ensures ∙ told.0; lent = told.1 }
+    record { answer = told.answer; refused = told.refused; lent = told.leaves }
 
 pub returns-then-length-gt16777216 : goal.returns-then-length-gt16777216
 returns-then-length-gt16777216 c =
     let size = c.size-length.ensures ∙ size-measured c.requires.0 c.measure-sizes.ensures in
     let told = long-refused c.args.cache.now c.args.out.now (sound-checked c.requires.0) c.requires.2 c.requires.3 (omega (arith, size, c.if-out-length.false)) (omega (arith, size, c.if-length-gt16777216.true)) in
-    record { answer = c.refusal-then-length-gt16777216.ensures ∙ told.0; lent = told.1 }
+    record { answer = told.answer; refused = told.refused; lent = told.leaves }
 
 -- there is room
 pub fill-requires : goal.fill-requires
@@ -36,4 +36,4 @@ pub returns : goal.returns
 returns c =
     let size = c.size-length.ensures ∙ size-measured c.requires.0 c.measure-sizes.ensures in
     let told = squeezed-told _ _ (sound-checked c.requires.0) c.requires.2 c.requires.3 (omega (arith, size, c.if-out-length.false)) (omega (arith, size, c.if-length-gt16777216.false)) size c.fill.ensures in
-    record { answer = told.0; lent = told.1 }
+    record { answer = told.answer; refused = told.refused; lent = told.leaves }
