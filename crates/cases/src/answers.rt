@@ -1,6 +1,5 @@
 // Prints one line for each answer: the case, the call, and every number that the call gives.
-use flags::FlagsAnswer;
-use format::{CheckAnswer, LookupAnswer, Reading};
+use format::{CheckAnswer, Fault, LookupAnswer, Reading};
 use listing::Position;
 
 // A write that fails is passed over: the stored output of the cases would show that it is missing.
@@ -11,6 +10,14 @@ pub fn print(rt: &impl Print, text: &[u8]) {
 pub fn begin(rt: &impl Print, case: &[u8], call: &str, number: u32, place: usize) {
     print(rt, case);
     let _ = print!(rt; ": {call} {number} at {place}");
+}
+
+// The number and the place of an answer, which are 0 where it is no refusal.
+pub fn numbers<T>(answer: &Result<T, Fault>) -> (u32, usize) {
+    match answer {
+        Ok(_) => (0, 0),
+        Err(fault) => (fault.number, fault.place),
+    }
 }
 
 // The line of a check, of which `call` says the reading.
@@ -91,10 +98,11 @@ pub fn hash(rt: &impl Print, case: &[u8], part: &[u8]) {
 }
 
 // One call for flags; its case is named by what is given.
-fn turn(rt: &impl Print, given: u16, numbering: u32, call: &str, answer: FlagsAnswer) {
+fn turn(rt: &impl Print, given: u16, numbering: u32, call: &str, answer: Result<u16, Fault>) {
     let _ = print!(rt; "flags {given} and numbering {numbering}");
-    begin(rt, b"", call, answer.number, answer.place);
-    let _ = println!(rt; ", flags {}", answer.flags);
+    let (number, place) = numbers(&answer);
+    begin(rt, b"", call, number, place);
+    let _ = println!(rt; ", flags {}", answer.unwrap_or(0));
 }
 
 // Both calls for flags, with the low 16 bits of `a` and the low 32 of `b`.
