@@ -15,8 +15,10 @@ fn pick_with(
     w: Words,
     directories: &[u32],
 ) {
-    let answer = pick::pick(cache, name, low(w.b), low(w.c), directories);
-    answers::begin(rt, case, "pick", answer.number, answer.place);
+    match pick::pick(cache, name, low(w.b), low(w.c), directories) {
+        Ok(picked) => answers::begin(rt, case, "pick", 0, picked.unwrap_or(0)),
+        Err(fault) => answers::begin(rt, case, "pick", fault.number, fault.place),
+    }
     let _ = println!(rt; "");
 }
 

@@ -19,7 +19,7 @@ ghost use Rattle.squeeze_spec.specs.Call.{squeeze, squeeze_leaves};
 
 use format::{CheckAnswer, Fault};
 use image_data::{Corners, Point, Span};
-use listing::Position;
+use listing::{Position, Step};
 
 // Hands on an answer of the check.
 fn hand_on(
@@ -42,7 +42,7 @@ fn hand_on(
 
 // An answer as its number, its place and what it gives: with a refusal that is `none`, and else the
 // number and the place are 0.
-fn spread<T>(answer: Result<T, Fault>, none: T) -> (u32, usize, T)
+fn spread<T: Copy>(answer: Result<T, Fault>, none: T) -> (u32, usize, T)
     ensures { MatchResult answer (λ value. result ≡ (0, 0, value)) (λ fault. result ≡ (fault.number, fault.place, none)) }
 {
     match answer {
@@ -131,17 +131,18 @@ pub extern "C" fn icon_cache_pick(
     ensures { pick_is result place.new ≡ pick cache.now name.now size scale directories.now }
 {
     let answer = pick::pick(cache, name, size, scale, directories);
-    *place = answer.place;
-    answer.number
+    let (number, at, picked) = spread(answer, None);
+    *place = picked.unwrap_or(at);
+    number
 }
 
 #[unsafe(no_mangle)]
 pub extern "C" fn icon_cache_directory(cache: &[u8], index: usize, place: &mut usize) -> u32
     ensures { directory_is result place.new ≡ directory cache.now index }
 {
-    let answer = icon_cache::directory(cache, index);
-    *place = answer.place;
-    answer.number
+    let (number, at, _) = spread(icon_cache::directory(cache, index), ());
+    *place = at;
+    number
 }
 
 #[unsafe(no_mangle)]
@@ -153,10 +154,18 @@ pub extern "C" fn icon_cache_directory_path(
 ) -> u32
     ensures { part_is result (directory_part cache.now index).place start.new path_length.new ≡ directory_part cache.now index }
 {
-    let answer = icon_cache::directory_part(cache, index);
-    *start = answer.start;
-    *path_length = answer.length;
-    answer.number
+    match icon_cache::directory_part(cache, index) {
+        Ok(part) => {
+            *start = part.start;
+            *path_length = part.length;
+            0
+        }
+        Err(fault) => {
+            *start = 0;
+            *path_length = 0;
+            fault.number
+        }
+    }
 }
 
 #[unsafe(no_mangle)]
@@ -263,13 +272,16 @@ pub extern "C" fn icon_cache_list(
         bucket: *bucket,
         count: *count,
     };
-    let answer = position.next(cache);
-    let next = answer.next;
-    *bucket = next.bucket;
-    *count = next.count;
-    *place = answer.place;
-    *record = answer.record;
-    answer.number
+    let none = Step {
+        record: 0,
+        next: position,
+    };
+    let (number, at, step) = spread(position.next(cache), none);
+    *bucket = step.next.bucket;
+    *count = step.next.count;
+    *place = at;
+    *record = step.record;
+    number
 }
 
 #[unsafe(no_mangle)]
