@@ -77,18 +77,28 @@ pub fn plain_lookup(rt: &impl Print, case: &[u8], cache: &[u8], name: &[u8], roo
 }
 
 pub fn directory(rt: &impl Print, case: &[u8], cache: &[u8], index: usize) {
-    let answer = icon_cache::directory(cache, index);
-    begin(rt, case, "directory", answer.number, answer.place);
+    match icon_cache::directory(cache, index) {
+        Ok(()) => begin(rt, case, "directory", 0, 0),
+        Err(fault) => begin(rt, case, "directory", fault.number, fault.place),
+    }
     print(rt, b", path \"");
     print(rt, icon_cache::directory_path(cache, index));
     print(rt, b"\"\n");
 }
 
 pub fn step(rt: &impl Print, case: &[u8], cache: &[u8], from: Position) {
-    let answer = from.next(cache);
-    let Position { bucket, count } = answer.next;
-    begin(rt, case, "step", answer.number, answer.place);
-    let _ = println!(rt; ", record {}, bucket {bucket}, count {count}", answer.record);
+    let (record, next) = match from.next(cache) {
+        Ok(step) => {
+            begin(rt, case, "step", 0, 0);
+            (step.record, step.next)
+        }
+        Err(fault) => {
+            begin(rt, case, "step", fault.number, fault.place);
+            (0, from)
+        }
+    };
+    let Position { bucket, count } = next;
+    let _ = println!(rt; ", record {record}, bucket {bucket}, count {count}");
 }
 
 // The hash of the name at the front of `part`.
