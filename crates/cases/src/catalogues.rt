@@ -1,12 +1,23 @@
 // Catalogues written as caches, caches listed as catalogues, and caches squeezed. What is to stand in
 // the lent bytes stands in the buffer, from 1,024 on.
 use crate::answers;
-use catalogue::WriteAnswer;
+use format::Fault;
 
-fn say(rt: &impl Print, case: &[u8], call: &str, answer: WriteAnswer, lent: &[u8], buffer: &[u8]) {
+fn say(
+    rt: &impl Print,
+    case: &[u8],
+    call: &str,
+    answer: Result<usize, Fault>,
+    lent: &[u8],
+    buffer: &[u8],
+) {
     let right = cases_lent::count_same(lent, buffer);
-    answers::begin(rt, case, call, answer.number, answer.place);
-    let _ = println!(rt; ", length {}, bytes right {right}", answer.length);
+    let (number, place, length) = match answer {
+        Ok(length) => (0, 0, length),
+        Err(fault) => (fault.number, fault.place, 0),
+    };
+    answers::begin(rt, case, call, number, place);
+    let _ = println!(rt; ", length {length}, bytes right {right}");
 }
 
 // Writes a cache with `room` bytes lent, at most 256. Each is a dot beforehand, so that an untouched

@@ -20,6 +20,7 @@ ghost use Rattle.squeeze_spec.specs.Call.{squeeze, squeeze_leaves};
 use format::{CheckAnswer, Fault};
 use image_data::{Corners, Point, Span};
 use listing::{Position, Step};
+use salvage::Saved;
 
 // Hands on an answer of the check.
 fn hand_on(
@@ -313,10 +314,10 @@ pub extern "C" fn icon_cache_write(
     ensures answer { write_is result place.new written.new ≡ write catalogue.now buckets (length cache.old) }
     ensures lent { cache.new ≡ write_leaves catalogue.now buckets cache.old }
 {
-    let answer = write_cache::write(catalogue, buckets, cache);
-    *place = answer.place;
-    *written = answer.length;
-    answer.number
+    let (number, at, bytes) = spread(write_cache::write(catalogue, buckets, cache), 0);
+    *place = at;
+    *written = bytes;
+    number
 }
 
 #[unsafe(no_mangle)]
@@ -329,10 +330,10 @@ pub extern "C" fn icon_cache_catalogue(
     ensures answer { write_is result place.new listed.new ≡ catalogue_of cache.now (length catalogue.old) }
     ensures lent { catalogue.new ≡ catalogue_leaves cache.now catalogue.old }
 {
-    let answer = export::catalogue_of(cache, catalogue);
-    *place = answer.place;
-    *listed = answer.length;
-    answer.number
+    let (number, at, bytes) = spread(export::catalogue_of(cache, catalogue), 0);
+    *place = at;
+    *listed = bytes;
+    number
 }
 
 #[unsafe(no_mangle)]
@@ -348,11 +349,12 @@ pub extern "C" fn icon_cache_salvage(
     ensures bytes { catalogue.new ≡ bytes_left_of cache.now catalogue.old report.old }
     ensures words { report.new ≡ words_left_of cache.now catalogue.old report.old }
 {
-    let answer = salvage::salvage(cache, catalogue, report);
-    *place = answer.place;
-    *saved = answer.length;
-    *rows = answer.rows;
-    answer.number
+    let none = Saved { length: 0, rows: 0 };
+    let (number, at, parts) = spread(salvage::salvage(cache, catalogue, report), none);
+    *place = at;
+    *saved = parts.length;
+    *rows = parts.rows;
+    number
 }
 
 #[unsafe(no_mangle)]
@@ -365,8 +367,8 @@ pub extern "C" fn icon_cache_squeeze(
     ensures answer { write_is result place.new written.new ≡ squeeze cache.now (length squeezed.old) }
     ensures lent { squeezed.new ≡ squeeze_leaves cache.now squeezed.old }
 {
-    let answer = squeeze::squeeze(cache, squeezed);
-    *place = answer.place;
-    *written = answer.length;
-    answer.number
+    let (number, at, bytes) = spread(squeeze::squeeze(cache, squeezed), 0);
+    *place = at;
+    *written = bytes;
+    number
 }
