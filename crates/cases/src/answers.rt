@@ -23,13 +23,9 @@ pub fn numbers<T>(answer: &Result<T, Fault>) -> (u32, usize) {
 // The line of a check, of which `call` says the reading.
 pub fn checked(rt: &impl Print, case: &[u8], call: &str, answer: CheckAnswer) {
     begin(rt, case, call, answer.number, answer.place);
-    let _ = println!(
-        rt;
+    let _ = println!(rt;
         ", directories {}, icons {}, opened {}, longest {}",
-        answer.directories,
-        answer.icons,
-        answer.opened,
-        answer.longest
+        answer.directories, answer.icons, answer.opened, answer.longest
     );
 }
 
