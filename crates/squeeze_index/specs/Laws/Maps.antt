@@ -1,12 +1,27 @@
 -- An index with values: one key more, or a key whose value is changed.
-use Rattle.std.specs.Prelude.{ℕ, ◌+◌, ◌-◌, ◌≤◌, ◌<◌, ◌≡◌, List, [], ◌∷◌, true, false, get_or}
+use Rattle.std.specs.Prelude.{ℕ, ◌+◌, ◌-◌, ◌≤◌, ◌<◌, ◌≡◌, List, [], ◌∷◌, true, false, get_or, Result, Ok, Err}
 use Rattle.std.proofs.Common.{sym, ap, ◌∙◌, ⊎_elim, arith}
 use Rattle.std.proofs.Math.Decide.{dec_lt}
 use Rattle.format.specs.String.{among}
 use Rattle.format.proofs.Laws.Names.{among-rest, among-either}
-use Rattle.names.specs.Index.{entry, Represents, Between}
+use Rattle.names.specs.Index.{entry, Represents, Within, Between, Spotted}
 use Rattle.names.specs.Laws.Index.{nothing-met, found-met, missing-not-met, missing-answers}
 use Rattle.squeeze_index.specs.Maps.{Maps, Adds}
+
+-- what the spot says where a key was sought
+module _ {r : Result ℕ ℕ} {i : ℕ} where
+  pub found_below : {n : ℕ} → r ≡ Ok i → Within n r → i < n
+  found_below e h = rw e at h
+
+  pub missing-within : {n : ℕ} → r ≡ Err i → Within n r → i ≤ n
+  missing-within e h = rw e at h
+
+  module _ (key : ℕ → List ℕ) (index : List ℕ) (n p : ℕ) where
+    pub found-entry : r ≡ Ok i → Spotted key index n p r → entry key index i ≡ key p
+    found-entry e h = rw e at h
+
+    pub missing-between : r ≡ Err i → Spotted key index n p r → Between key index n (key p) i i
+    missing-between e h = rw e at h
 
 pub maps_none : (key : ℕ → List ℕ) (index values : List ℕ) (value : List ℕ → ℕ) → Maps key index values 0 [] value
 maps_none key index values value = record { known = nothing-met key index; valued = λ i l. absurd (omega arith) }
