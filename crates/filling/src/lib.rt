@@ -6,18 +6,24 @@ ghost use Rattle.std.specs.Prelude.{[], ◌∷◌, ◌+◌, ◌^◌, ◌≤◌, 
 ghost use Rattle.format.specs.Bytes.{bytes};
 ghost use Rattle.filling.specs.Puts.{Puts};
 
-use bigendian::{put_byte, put_u16, put_u32};
-use copying::copy;
+// Puts a part.
+fn part(out: &mut [u8], at: usize, part: &[u8]) -> usize
+    requires { at + length part.now < 2 ^ 63 }
+    ensures { Puts out.old out.new at part.now result }
+{
+    let end = at + part.len();
+    if end <= out.len() {
+        out[at..end].copy_from_slice(part);
+    }
+    end
+}
 
 // Puts `n` as one byte.
 pub fn byte(out: &mut [u8], at: usize, n: u8) -> usize
     requires { at < 2 ^ 62 }
     ensures { Puts out.old out.new at (bytes 1 n) result }
 {
-    if at < out.len() {
-        put_byte(out, at, n);
-    }
-    at + 1
+    part(out, at, &[n])
 }
 
 // Puts `n` as two bytes.
@@ -25,10 +31,7 @@ pub fn short(out: &mut [u8], at: usize, n: u16) -> usize
     requires { at < 2 ^ 62 }
     ensures { Puts out.old out.new at (bytes 2 n) result }
 {
-    if at + 2 <= out.len() {
-        put_u16(out, at, n);
-    }
-    at + 2
+    part(out, at, &n.to_be_bytes())
 }
 
 // Puts `n` as four bytes.
@@ -36,10 +39,7 @@ pub fn long(out: &mut [u8], at: usize, n: u32) -> usize
     requires { at < 2 ^ 62 }
     ensures { Puts out.old out.new at (bytes 4 n) result }
 {
-    if at + 4 <= out.len() {
-        put_u32(out, at, n);
-    }
-    at + 4
+    part(out, at, &n.to_be_bytes())
 }
 
 // Puts the `n` bytes that stand in `from` at `start`.
@@ -47,10 +47,7 @@ pub fn text(from: &[u8], start: usize, n: usize, out: &mut [u8], at: usize) -> u
     requires { (start + n ≤ length from.now) × (at + n < 2 ^ 63) }
     ensures { Puts out.old out.new at (take n (drop start from.now)) result }
 {
-    if at + n <= out.len() {
-        copy(from, start, n, out, at);
-    }
-    at + n
+    part(out, at, &from[start..start + n])
 }
 
 // Puts a row of a report: its number and its place.

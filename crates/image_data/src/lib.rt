@@ -181,7 +181,8 @@ fn display(cache: &[u8], data: usize, entry: usize, which: usize) -> Result<Span
     string(cache, at + which)
 }
 
-// The language of the display name `entry` behind the IMAGE_DATA_OFFSET `data`.
+// The language of the display name `entry` behind the IMAGE_DATA_OFFSET `data`. It and its text have a
+// call each, as in the interface for C.
 pub fn display_language(cache: &[u8], data: usize, entry: usize) -> Result<Span, Fault>
     ensures answer { string_answer result ≡ display_language cache.now «data» entry }
     ensures refused { IfErr result (λ fault. 0 < fault.number) }

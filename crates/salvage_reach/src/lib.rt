@@ -41,7 +41,7 @@ pub struct Reached {
     pub cut: Option<Fault>,
 }
 
-// How a chain goes.
+// How a chain goes; neither way is a failure, so it is no `Result`.
 #[derive(Clone, Copy)]
 pub enum Way {
     // It comes to an end.

@@ -1,13 +1,6 @@
--- `filling::short` meets its contract, whether there is room for two bytes or not.
-use mathlib.Core.Path.{refl}
-use native.Mathlib.Omega.{arith}
-use Rattle.format.proofs.Laws.Bytes.{bytes-length}
-use Rattle.filling.specs.Laws.{puts_whole, puts-short}
+-- `filling::short` meets its contract: the library's bytes of a number are those of the definition.
+use Rattle.bigendian.proofs.Part.{two_bytes}
 use Rattle.filling.proofs.short.Goals as goal
-use Rattle.filling.proofs.short.Goals.{then-at-out, else-at-out}
 
 pub returns : goal.returns
-returns c = elim c.if-at-out.branch [
-  | then-at-out w ↦ rw w.out-is (puts_whole (bytes-length 2 _) refl (omega arith) w.put_u16.ensures)
-  | else-at-out w ↦ rw w.out-is (puts-short (bytes-length 2 _) refl (omega arith) refl)
-]
+returns c = rw (← two_bytes c.args.n, ← c.to_be_bytes.ensures) c.part.ensures
