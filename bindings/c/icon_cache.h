@@ -132,7 +132,7 @@ uint32_t icon_cache_check(const uint8_t *cache, size_t cache_len,
  * costs far more than in icon_cache_check: 4 KiB can take a second, 8 KiB ten,
  * 64 KiB half an hour and 16 MiB some days. No limit of length is of much use:
  * judge what strangers made in a process that can be stopped after some time. Of
- * real caches, Tango's takes 1.23 times the instructions of the other check.
+ * real caches, Tango's takes 1.27 times the instructions of the other check.
  */
 uint32_t icon_cache_check_long(const uint8_t *cache, size_t cache_len,
                                size_t *place, size_t *directories,
