@@ -117,7 +117,7 @@ fn valid_name_text(catalogue: &[u8], at: usize) -> bool
         return false;
     }
     let end = text + length;
-    strings::asked(&catalogue[text..end]).is_some()
+    strings::asked(&catalogue[text..end]).is_ok()
 }
 
 // Whether the count of images at `at` is there, and not too large.

@@ -58,7 +58,7 @@ pub fn check(cache: &[u8], reading: Reading) -> CheckAnswer
 pub fn find(cache: &[u8], name: &[u8]) -> Found
     ensures { result ≡ calls.find cache.now name.now }
 {
-    let Some(hash) = strings::asked(name) else {
+    let Ok(hash) = strings::asked(name) else {
         return unfound(13, 0, 0);
     };
     if let Err(fault) = tables::header(cache) {

@@ -34,7 +34,7 @@ pub fn plain_lookup(cache: &[u8], name: &[u8], words: &mut [u32]) -> LookupAnswe
     ensures answer { result ≡ plain_lookup cache.now name.now (length words.old) }
     ensures lent { words.new ≡ plain_words cache.now name.now words.old }
 {
-    if strings::asked(name).is_none() {
+    if strings::asked(name).is_err() {
         return without(13, 0, 0);
     }
     let check = icon_cache::check_short(cache);

@@ -3,7 +3,7 @@
 // is handed over as the part of the buffer from its offset on.
 #![tactic(auto)]
 
-ghost use Rattle.std.specs.Prelude.{◌≡◌, ℕ, ◌*◌, ◌%◌, ◌^◌, true, false, List, length, take, drop, Some, None, MatchResult, if◌then◌else◌};
+ghost use Rattle.std.specs.Prelude.{◌≡◌, ℕ, ◌*◌, ◌%◌, ◌^◌, true, false, List, length, take, drop, Ok, Err, MatchResult, if◌then◌else◌};
 ghost use Rattle.format.specs.String.{string, extent, is_whole, string_fault, spells_name, hash, text_within, allowed};
 ghost use Rattle.format.specs.String as definition;
 ghost use Rattle.format.specs.declared.Extent.TheVariants.{Whole};
@@ -153,15 +153,16 @@ pub fn within(size: usize, extent: Extent) -> bool
     }
 }
 
-// The hash of `name`, if it may be asked for, with 1 to 255 bytes and none of them zero.
-pub fn asked(name: &[u8]) -> Option<u32>
-    ensures { result ≡ (if allowed name.now then Some (hash name.now) else None) }
+// The hash of `name`: `Ok` if it may be asked for, with 1 to 255 bytes and none of them zero, and
+// else `Err` of what its first 255 bytes before a zero byte hash to.
+pub fn asked(name: &[u8]) -> Result<u32, u32>
+    ensures { result ≡ (if allowed name.now then Ok (hash name.now) else Err (hash (take 255 (string name.now)))) }
 {
     let read = read_name(name);
     let extent = read.extent;
     if within(name.len(), extent) {
-        Some(read.hash)
+        Ok(read.hash)
     } else {
-        None
+        Err(read.hash)
     }
 }

@@ -1,8 +1,8 @@
 -- `plain_lookup::plain_lookup` meets its contract: before each turn none of the records tried bears
 -- the name.
 use Rattle.std.proofs.Common.{◌≡◌, ℕ, ◌+◌, List, length, Bool, true, false, ◌∙◌, refl, sym, ap, arith}
-use Rattle.std.proofs.Common.{Some, None, if◌then◌else◌}
-use Rattle.std.specs.Option.{is_some}
+use Rattle.std.proofs.Common.{Ok, Err, if◌then◌else◌}
+use Rattle.std.specs.Result.{is_err}
 use Rattle.format.specs.String.{allowed}
 use Rattle.format.specs.Answer.{looked_up}
 use Rattle.format.specs.Call.{found_answer, answer_words}
@@ -21,42 +21,42 @@ use Rattle.plain_lookup.proofs.Laws.Tried.{bears-name, bears-other, tried-met, t
 use Rattle.plain_lookup.proofs.plain_lookup.Goals as goal
 
 -- whether the name may be asked for
-asked-none : (b : Bool) (h : ℕ) → is_some (if b then Some h else None) ≡ false → b ≡ false
-asked-none true h e = e
-asked-none false h e = refl
+asked-err : (b : Bool) (h g : ℕ) → true ≡ is_err (if b then Ok h else Err g) → b ≡ false
+asked-err true h g e = cc
+asked-err false h g e = refl
 
-asked-some : (b : Bool) (h : ℕ) → is_some (if b then Some h else None) ≡ true → b ≡ true
-asked-some true h e = refl
-asked-some false h e = e
+asked-ok : (b : Bool) (h g : ℕ) → false ≡ is_err (if b then Ok h else Err g) → b ≡ true
+asked-ok true h g e = refl
+asked-ok false h g e = cc
 
 -- an answer with another number than 0 leaves the words as they were
 words-left : (s name words : List ℕ) {a : LookupAnswer} → a ≡ plain_lookup s name (length words) → (a.number ≡ 0 → ⊥) → words ≡ plain_words s name words
 words-left s name words {a} e some = sym (answer_keeps s words a some) ∙ ap (answer_words s words) e
 
-pub returns-then-is_none-clause-answer : goal.returns-then-is_none-clause-answer
-returns-then-is_none-clause-answer c =
-    let unallowed = asked-none _ _ (rw (c.asked.ensures, c.if-is_none.true) at c.is_none.ensures) in
+pub returns-then-is_err-clause-answer : goal.returns-then-is_err-clause-answer
+returns-then-is_err-clause-answer c =
+    let unallowed = asked-err _ _ _ (rw (c.asked.ensures, c.if-is_err.true) at c.is_err.ensures.value) in
     let told = c.without.ensures in
     let e = told ∙ sym (plain-unallowed _ _ _ unallowed) in
     e
 
-pub returns-then-is_none-clause-lent : goal.returns-then-is_none-clause-lent
-returns-then-is_none-clause-lent c =
-    let unallowed = asked-none _ _ (rw (c.asked.ensures, c.if-is_none.true) at c.is_none.ensures) in
+pub returns-then-is_err-clause-lent : goal.returns-then-is_err-clause-lent
+returns-then-is_err-clause-lent c =
+    let unallowed = asked-err _ _ _ (rw (c.asked.ensures, c.if-is_err.true) at c.is_err.ensures.value) in
     let told = c.without.ensures in
     let e = told ∙ sym (plain-unallowed _ _ _ unallowed) in
     words-left _ _ _ e (λ z. omega (arith, ap (λ (a : LookupAnswer). a.number) told))
 
 pub returns-then-check-ne0-clause-answer : goal.returns-then-check-ne0-clause-answer
 returns-then-check-ne0-clause-answer c =
-    let may_be : allowed c.args.name.now ≡ true = asked-some _ _ (rw (c.asked.ensures, c.if-is_none.false) at c.is_none.ensures) in
+    let may_be : allowed c.args.name.now ≡ true = asked-ok _ _ _ (rw (c.asked.ensures, c.if-is_err.false) at c.is_err.ensures.value) in
     let told = c.without-then-check-ne0.ensures in
     let e = told ∙ sym (plain-refused _ _ _ may_be c.check_short-check.ensures.answer c.if-check-ne0.true) in
     e
 
 pub returns-then-check-ne0-clause-lent : goal.returns-then-check-ne0-clause-lent
 returns-then-check-ne0-clause-lent c =
-    let may_be : allowed c.args.name.now ≡ true = asked-some _ _ (rw (c.asked.ensures, c.if-is_none.false) at c.is_none.ensures) in
+    let may_be : allowed c.args.name.now ≡ true = asked-ok _ _ _ (rw (c.asked.ensures, c.if-is_err.false) at c.is_err.ensures.value) in
     let told = c.without-then-check-ne0.ensures in
     let e = told ∙ sym (plain-refused _ _ _ may_be c.check_short-check.ensures.answer c.if-check-ne0.true) in
     words-left _ _ _ e (λ z. c.if-check-ne0.true (sym (ap (λ (a : LookupAnswer). a.number) told) ∙ z))
@@ -80,7 +80,7 @@ with_images-requires-clause-record_in_bounds_2 c =
 
 pub returns-then-bears-clause-answer : goal.returns-then-bears-clause-answer
 returns-then-bears-clause-answer c =
-    let may_be : allowed c.args.name.now ≡ true = asked-some _ _ (rw (c.asked.ensures, c.if-is_none.false) at c.is_none.ensures) in
+    let may_be : allowed c.args.name.now ≡ true = asked-ok _ _ _ (rw (c.asked.ensures, c.if-is_err.false) at c.is_err.ensures.value) in
     let kept = ap (λ (a : CheckAnswer). a.number) (sym c.check_short-check.ensures.answer) ∙ c.if-check-ne0.false in
     let accepted = c.check_short-check.ensures.demand.accepted.0 c.if-check-ne0.false in
     let here = c.loop-at.invariant.at.here c.loop-at-test.true in
@@ -97,7 +97,7 @@ returns-then-bears-clause-answer c =
 
 pub returns-then-bears-clause-lent : goal.returns-then-bears-clause-lent
 returns-then-bears-clause-lent c =
-    let may_be : allowed c.args.name.now ≡ true = asked-some _ _ (rw (c.asked.ensures, c.if-is_none.false) at c.is_none.ensures) in
+    let may_be : allowed c.args.name.now ≡ true = asked-ok _ _ _ (rw (c.asked.ensures, c.if-is_err.false) at c.is_err.ensures.value) in
     let kept = ap (λ (a : CheckAnswer). a.number) (sym c.check_short-check.ensures.answer) ∙ c.if-check-ne0.false in
     let accepted = c.check_short-check.ensures.demand.accepted.0 c.if-check-ne0.false in
     let here = c.loop-at.invariant.at.here c.loop-at-test.true in
@@ -130,7 +130,7 @@ loop-at-preserved c =
 
 pub returns-clause-answer : goal.returns-clause-answer
 returns-clause-answer c =
-    let may_be : allowed c.args.name.now ≡ true = asked-some _ _ (rw (c.asked.ensures, c.if-is_none.false) at c.is_none.ensures) in
+    let may_be : allowed c.args.name.now ≡ true = asked-ok _ _ _ (rw (c.asked.ensures, c.if-is_err.false) at c.is_err.ensures.value) in
     let kept = ap (λ (a : CheckAnswer). a.number) (sym c.check_short-check.ensures.answer) ∙ c.if-check-ne0.false in
     let s = c.args.cache.now in
     let all = c.loop-at.invariant.at.all c.loop-at-test.false in
@@ -141,7 +141,7 @@ returns-clause-answer c =
 
 pub returns-clause-lent : goal.returns-clause-lent
 returns-clause-lent c =
-    let may_be : allowed c.args.name.now ≡ true = asked-some _ _ (rw (c.asked.ensures, c.if-is_none.false) at c.is_none.ensures) in
+    let may_be : allowed c.args.name.now ≡ true = asked-ok _ _ _ (rw (c.asked.ensures, c.if-is_err.false) at c.is_err.ensures.value) in
     let kept = ap (λ (a : CheckAnswer). a.number) (sym c.check_short-check.ensures.answer) ∙ c.if-check-ne0.false in
     let s = c.args.cache.now in
     let all = c.loop-at.invariant.at.all c.loop-at-test.false in

@@ -1,4 +1,5 @@
--- `strings::asked` meets its contract: a name that may be asked for is hashed whole.
+-- `strings::asked` meets its contract: a name that may be asked for is hashed whole, and any other
+-- as far as it is read.
 use Rattle.std.proofs.Common.{sym, refl, ◌∙◌}
 use Rattle.format.specs.String.{allowed}
 use Rattle.format.proofs.Laws.Hashes.{allowed-hash}
@@ -12,4 +13,4 @@ returns-then-within c =
 
 pub returns-else-within : goal.returns-else-within
 unfolding allowed
-returns-else-within c = rw (sym (c.within.ensures 255 _ refl c.read_name-read.ensures.extent) ∙ c.if-within.false)
+returns-else-within c = rw (sym (c.within.ensures 255 _ refl c.read_name-read.ensures.extent) ∙ c.if-within.false, c.read_name-read.ensures.hash)
