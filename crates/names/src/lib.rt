@@ -9,14 +9,32 @@ ghost use Rattle.keys.specs.Key.{key_at};
 ghost use Rattle.names.specs.Index.{Rising, Represents, Within, Spotted, Inserted, Answered};
 
 use keys::{Kind, compare};
+use std::cmp::Ordering;
 
-// Which of the first `n` entries has the key of `at`, or where it would stand.
+// Which of the first `n` entries has the key of `at`, or where it would stand, by halving.
 pub fn find(s: &[u8], kind: Kind, index: &[u32], n: usize, at: u32) -> Result<usize, usize>
     requires { n ≤ length index.now }
     ensures within { Within n result }
     ensures spotted { Rising (key_at kind s.now) index.now n → Spotted (key_at kind s.now) index.now n at result }
 {
-    index[..n].binary_search_by(|entry| compare(s, kind, *entry, at))
+    let mut low = 0;
+    let mut high = n;
+    // No `binary_search_by`: the library's goes on after an equal key, and keys may be long and alike.
+    while low < high {
+        let middle = low + (high - low) / 2;
+        match compare(s, kind, index[middle], at) {
+            Ordering::Less => {
+                low = middle + 1;
+            }
+            Ordering::Equal => {
+                return Ok(middle);
+            }
+            Ordering::Greater => {
+                high = middle;
+            }
+        }
+    }
+    Err(low)
 }
 
 // Makes `at` the entry `i`; the entries from `i` to `n` move one further.

@@ -1,15 +1,27 @@
--- `names::find` meets its contract: the comparisons with the key rise along an index.
-use Rattle.std.proofs.Common.{◌≡◌, rules}
-use Rattle.std.proofs.lemmas.Fn.{always_returns_same}
-use Rattle.keys.specs.Order.{order}
-use Rattle.keys.specs.Key.{key_at}
-use Rattle.names.specs.Laws.Between.{searched}
+-- `names::find` meets its contract: the key sought stands between the entries before `low` and
+-- those from `high` on.
+use Rattle.std.proofs.Common.{◌+◌, ◌-◌, ◌/◌, ◌∙◌, sym, arith}
+use Rattle.keys.proofs.Laws.{order-equal}
+use Rattle.names.specs.Laws.Between.{after-middle, before-middle}
 use Rattle.names.proofs.find.Goals as goal
 
-pub returns-clause-spotted : goal.returns-clause-spotted
-returns-clause-spotted c = λ rising.
-    let a = c.args in
-    let key = key_at a.kind a.s.now in
-    let compares = always_returns_same _ (λ e r. r ≡ order (key e.0.now) (key a.at)) _ (λ e r f called. search rules) in
-    let found = c.binary_search_by.ensures in
-    searched key a.index.now a.n a.at c.requires rising c.binary_search_by.result found.bound (found.position (λ e. order (key e) (key a.at)) compares)
+pub loop-low-preserved-in-Less : goal.loop-low-preserved-in-Less
+loop-low-preserved-in-Less c =
+    let l = c.loop-low in
+    record {
+      apart = omega arith;
+      within = l.invariant.within;
+      between = λ rising. after-middle _ _ _ _ rising (l.invariant.between rising) (l.low + (l.high - l.low) / 2) (omega arith) c.compare.ensures c.in-Less.is;
+    }
+
+pub returns-in-Equal-clause-spotted : goal.returns-in-Equal-clause-spotted
+returns-in-Equal-clause-spotted c = λ rising. order-equal _ _ (sym c.compare.ensures ∙ c.in-Equal.is)
+
+pub loop-low-preserved : goal.loop-low-preserved
+loop-low-preserved c =
+    let l = c.loop-low in
+    record {
+      apart = omega arith;
+      within = omega arith;
+      between = λ rising. before-middle _ _ _ _ rising (l.invariant.between rising) (l.low + (l.high - l.low) / 2) (omega arith) c.compare.ensures c.in-Greater.is;
+    }
