@@ -124,17 +124,17 @@ pub fn horizon(opened: usize, most: usize) -> usize
 
 // The rest of a walk that has come back to a record, and so has judged all that it will meet, or
 // that may open no more: from `field` on the records are stepped, and opened one by one.
-pub fn go_round(cache: &[u8], field: usize, opened: usize, most: usize) -> Walked
+pub fn go_round(cache: &[u8], mut field: usize, mut opened: usize, most: usize) -> Walked
     requires opened_bound { (opened ≤ most + 1) × (most < length cache.now) × (length cache.now ≤ 2 ^ 24) }
     requires inside_below { InsideBelow cache.now field (most + 1 - opened) }
     ensures { result ≡ stepped_to (most + 1) (rounds.ahead cache.now field (most + 1 - opened)) }
 {
-    let all = most + 1;
-    let last = ahead(cache, field, all - opened);
-    Walked {
-        opened: all,
-        after: Next::Record(last),
+    while opened <= most {
+        field = u32_at(cache, field) as usize;
+        opened += 1;
     }
+    let after = Next::Record(field);
+    Walked { opened, after }
 }
 
 // The whole of a walk past at most `most` records that is judged as far as it must be.
