@@ -11,7 +11,10 @@ pub fn copy(from: &[u8], start: usize, n: usize, out: &mut [u8], at: usize)
     requires { (start + n ≤ length from.now) × (at + n ≤ length out.old) }
     ensures { out.new ≡ put out.old at (take n (drop start from.now)) }
 {
-    out[at..at + n].copy_from_slice(&from[start..start + n]);
+    // No `copy_from_slice`: with it the library for C would need a `memmove` from outside.
+    for i in 0..n {
+        out[at + i] = from[start + i];
+    }
 }
 
 // Puts the text of `n` bytes that stands in `from` at `start` into `out` at `at`, and a zero byte

@@ -6,6 +6,8 @@ ghost use Rattle.std.specs.Prelude.{[], ◌∷◌, ◌+◌, ◌^◌, ◌≤◌, 
 ghost use Rattle.format.specs.Bytes.{bytes};
 ghost use Rattle.filling.specs.Puts.{Puts};
 
+use copying::copy;
+
 // Puts a part.
 fn part(out: &mut [u8], at: usize, part: &[u8]) -> usize
     requires { at + length part.now < 2 ^ 63 }
@@ -13,7 +15,7 @@ fn part(out: &mut [u8], at: usize, part: &[u8]) -> usize
 {
     let end = at + part.len();
     if end <= out.len() {
-        out[at..end].copy_from_slice(part);
+        copy(part, 0, part.len(), out, at);
     }
     end
 }
