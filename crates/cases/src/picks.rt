@@ -16,10 +16,10 @@ fn pick_with(
     directories: &[u32],
 ) {
     match pick::pick(cache, name, low(w.b), low(w.c), directories) {
-        Ok(picked) => answers::begin(rt, case, "pick", 0, picked.unwrap_or(0)),
-        Err(fault) => answers::begin(rt, case, "pick", fault.number, fault.place),
+        Ok(picked) => answers::begin(rt, case, ": pick ", 0, picked.unwrap_or(0)),
+        Err(fault) => answers::begin(rt, case, ": pick ", fault.number, fault.place),
     }
-    let _ = println!(rt; "");
+    answers::print(rt, b"\n");
 }
 
 // A pick for size `w.b` and scale `w.c` with `w.a` words lent, at most 24.

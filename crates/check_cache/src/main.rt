@@ -6,7 +6,7 @@ ghost use Rattle.check_cache.specs.Line.{line_of, line_for};
 
 use format::{CheckAnswer, Reading};
 use std::fmt;
-use std::fmt::Display;
+use std::fmt::{Display, Write};
 
 // The largest cache that is judged, in bytes.
 const LARGEST: usize = 65536;
@@ -66,15 +66,27 @@ impl Display for Line {
                 longest,
             } => write!(
                 f,
-                "accepted {icons} icons {directories} directories longest {longest}"
+                "accepted {icons} icons {directories} directories longest {longest}\n"
             ),
             Line::Refused {
                 number,
                 place,
                 opened,
-            } => write!(f, "refused {number} at {place} opened {opened}"),
-            Line::TooLarge => write!(f, "too large for this program"),
+            } => write!(f, "refused {number} at {place} opened {opened}\n"),
+            Line::TooLarge => write!(f, "too large for this program\n"),
         }
+    }
+}
+
+// What is written to it is printed piece by piece: a write that fails is passed over, and what comes
+// after it is tried all the same.
+#[derive(Drop)]
+struct Tried<'a, P>(&'a P);
+
+impl<P: Print> Write for Tried<'_, P> {
+    fn write_str(&mut self, text: &str) -> fmt::Result {
+        let _ = self.0.write_all(text.as_bytes());
+        Ok(())
     }
 }
 
@@ -83,6 +95,6 @@ impl Display for Line {
 fn main(rt: HostRuntime) {
     let mut input = [0u8; 65537];
     let n = input::read_full(&mut rt.stdin(), &mut input);
-    // A write that fails is passed over.
-    let _ = println!(rt; "{}", line_for(&input[..n]));
+    let line = line_for(&input[..n]);
+    let _ = write!(Tried(&rt), "{line}");
 }
