@@ -122,7 +122,7 @@ pub fn directory_path(cache: &[u8], index: usize) -> &[u8]
     ensures { result.now ≡ directory_path cache.now index }
 {
     let Ok(part) = directory_part(cache, index) else {
-        return &[];
+        return &cache[..0];
     };
     let end = part.start + part.length;
     &cache[part.start..end]

@@ -209,7 +209,7 @@ fn bytes(cache: &[u8], part: Result<Span, Fault>) -> &[u8]
 {
     match part {
         Ok(Span { start, length }) => &cache[start..start + length],
-        Err(_) => &[],
+        Err(_) => &cache[..0],
     }
 }
 
