@@ -1,16 +1,17 @@
 -- What a call judges on its way, by what it finds there, and that the part to which its way leads
 -- lies inside.
 use Prim.Native.Nat.{ℕ, suc, ◌+◌, ◌*◌, ◌≤◌, ◌<◌}
-use Rattle.std.specs.Prelude.{◌≡◌, List, length}
+use Rattle.std.specs.Prelude.{◌≡◌, List, true, false, length}
 use Rattle.std.proofs.Math.Bool.{and-eq-true_iff}
 use Rattle.std.proofs.Math.Nat.{mul-le-mul}
 use Rattle.std.proofs.Common.{le_refl}
 use native.Mathlib.Omega.{arith}
-use borrow.Author.Tests.{ltb-true, leb-true, le-leb, lt-leb}
+use borrow.Author.Tests.{ltb-true, leb-true, lt-ltb, le-ltb, le-leb, lt-leb, eq-eqb, ne_eqb}
 use Rattle.format.specs.Layout.{most_bytes}
 use Rattle.format.specs.Number.{be}
 use Rattle.format.specs.Fault.{fault, no_fault, ◌or_else◌}
 use Rattle.format.specs.ImageData.{meta_data_field, image_data_size, meta_data_size, entry_at}
+use Rattle.format.specs.Notes.{valid_entries}
 use Rattle.format.proofs.Laws.Faults.{same_number, or_else-next, or_else-none, unless-none}
 use Rattle.format.proofs.Laws.Reads.{list-ends}
 use Rattle.image_data.specs.Call.{meta_at, bytes_fault, part_fault, meta_fault, entry_fault}
@@ -31,6 +32,18 @@ module _ (s : List ℕ) where
 
 -- a part
 module _ (s : List ℕ) (p size place : ℕ) where
+  pub part-absent : p ≡ 0 → part_fault s p size place ≡ fault 33 0
+  unfolding part_fault ◌or_else◌
+  part-absent e = rw (eq-eqb p 0 e)
+
+  pub part-outside : (p ≡ 0 → ⊥) → length s < p + size → part_fault s p size place ≡ fault 22 place
+  unfolding part_fault ◌or_else◌
+  part-outside real l = rw (ne_eqb p 0 real, lt-leb (p + size) (length s) l)
+
+  pub part-found : (p ≡ 0 → ⊥) → p + size ≤ length s → part_fault s p size place ≡ no_fault
+  unfolding part_fault ◌or_else◌
+  part-found real l = rw (ne_eqb p 0 real, le-leb (p + size) (length s) l)
+
   pub part-inside : (part_fault s p size place).number ≡ 0 → p + size ≤ length s
   unfolding part_fault
   part-inside h = leb-true _ _ (unless-none _ 21 place (or_else-none _ _ h).1)
@@ -52,6 +65,10 @@ module _ (s : List ℕ) (d : ℕ) where
 
 -- an entry of the list that the field f names
 module _ (s : List ℕ) (f size i : ℕ) where
+  pub entry_absent : be 4 s f ≡ 0 → entry_fault s f size i ≡ fault 33 0
+  unfolding entry_fault ◌or_else◌
+  entry_absent e = rw (eq-eqb (be 4 s f) 0 e)
+
   pub entry-inside : (entry_fault s f size i).number ≡ 0 → entry_at (be 4 s f) size i + size ≤ length s
   unfolding entry_fault
   entry-inside h =
@@ -60,3 +77,17 @@ module _ (s : List ℕ) (f size i : ℕ) where
       let ends = list-ends s (be 4 s f) size ((and-eq-true_iff _ _).0 (unless-none _ 21 f rest.0)).0 in
       let fit : size * suc i ≤ size * be 4 s (be 4 s f) = mul-le-mul (le_refl size) (omega arith) in
       omega arith
+
+  module _ (real : be 4 s f ≡ 0 → ⊥) where
+    pub entry-broken : valid_entries s (be 4 s f) size ≡ false → entry_fault s f size i ≡ fault 22 f
+    unfolding entry_fault ◌or_else◌
+    entry-broken e = rw (ne_eqb (be 4 s f) 0 real, e)
+
+    module _ (valid : valid_entries s (be 4 s f) size ≡ true) where
+      pub entry-beyond : be 4 s (be 4 s f) ≤ i → entry_fault s f size i ≡ fault 33 0
+      unfolding entry_fault ◌or_else◌
+      entry-beyond l = rw (ne_eqb (be 4 s f) 0 real, valid, le-ltb i (be 4 s (be 4 s f)) l)
+
+      pub entry_found : i < be 4 s (be 4 s f) → entry_fault s f size i ≡ no_fault
+      unfolding entry_fault ◌or_else◌
+      entry_found l = rw (ne_eqb (be 4 s f) 0 real, valid, lt-ltb i (be 4 s (be 4 s f)) l)
