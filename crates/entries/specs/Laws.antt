@@ -1,6 +1,6 @@
 -- What the judgement of a path and of an icon is by what is judged first, and how things in a row
 -- are judged one after the other.
-use Rattle.std.specs.Prelude.{ℕ, zero, suc, ◌+◌, ◌-◌, ◌≤◌, ◌<◌, ◌≡◌, refl, List, true, false, get_or, Ok, Err}
+use Rattle.std.specs.Prelude.{ℕ, zero, suc, ◌+◌, ◌-◌, ◌≤◌, ◌<◌, ◌≡◌, refl, List, true, false, get_or, Result, Ok, Err}
 use Rattle.std.proofs.Common.{sym, ◌∙◌, add-zero, zero-add, arith}
 use Rattle.std.proofs.Math.Path.{ap}
 use Rattle.std.proofs.Math.Bool.{and-eq-true_iff}
@@ -23,6 +23,13 @@ use Rattle.entries.specs.Judged.{row_judged}
 pub one_byte : (s : List ℕ) (p : ℕ) → be 1 s p ≡ get_or s p 0
 unfolding be
 one_byte s p = simp (add-zero, zero-add)
+
+-- what is handed on of fields: a field that is refused, and fields that are kept up to their end
+pub refuses : (e : ℕ) {v : Fault} {p : ℕ} {a : Result ℕ Fault} → v ≡ fault 18 p → a ≡ Err (fault 18 p) → a ≡ outcome v e
+refuses e is told = rw (told, is)
+
+pub keeps : {v : Fault} {e : ℕ} {a : Result ℕ Fault} → v ≡ no_fault → a ≡ Ok e → a ≡ outcome v e
+keeps is told = rw (told, is)
 
 module _ (c : List ℕ) (p : ℕ) where
   pub length-refused : valid_path_length c p ≡ false → path_fields_fault c p ≡ fault 18 p
@@ -106,6 +113,10 @@ module _ (n : ℕ) (c : List ℕ) (p : ℕ) where
 -- where one that is kept ends
 pub kept-inside : (v : Fault) (e : ℕ) {q most : ℕ} → Ok q ≡ outcome v e → (v.number ≡ 0 → e ≤ most) → q ≤ most
 kept-inside v e {q} told h = let (kept, is) = kept-by v e q told in rw is (h kept)
+
+-- where things in a row end that are kept
+pub judged-end : (judge : ℕ → Fault) (next : ℕ → ℕ) (n p : ℕ) {e : ℕ} → Ok e ≡ row_judged judge next n p → e ≡ row_end next n p
+judged-end judge next n p {e} told = (kept-by (first_fault judge next n p) (row_end next n p) e told).1
 
 -- n things in a row, and p is where the one behind the first i begins: none is left, that one is
 -- refused, or it is kept and the rest decides

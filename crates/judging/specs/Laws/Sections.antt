@@ -1,5 +1,5 @@
 -- What the judgement of a whole catalogue is by what is judged first, section by section.
-use Rattle.std.specs.Prelude.{ℕ, ◌+◌, ◌≤◌, ◌<◌, ◌≡◌, length, Ok, Err}
+use Rattle.std.specs.Prelude.{ℕ, ◌+◌, ◌≤◌, ◌<◌, ◌≡◌, length, Result, Ok, Err}
 use Rattle.std.proofs.Math.Path.{sym}
 use Rattle.std.proofs.Common.{◌∙◌, le-leb}
 use mathlib.Core.List.{List, []}
@@ -15,6 +15,14 @@ use Rattle.catalogue.specs.Judgement.{path_fields_fault, icon_fields_fault, fiel
 use Rattle.catalogue.specs.Repeats.{repeat_fault, icon_uses, catalogue_fault}
 use Rattle.judging.specs.Judging.{icons_fault, parts_at, parted, repeat_from}
 use Rattle.judging.specs.declared.Parts.{Parts}
+
+-- an answer that refuses
+pub parted-broken : (c : List ℕ) (n p : ℕ) {v : Fault} {a : Result Parts Fault} → a ≡ Err v → (v.number ≡ 0 → ⊥) → a ≡ parted c v n p
+parted-broken c n p {v} e broken = e ∙ sym (outcome-broken v (parts_at c n p) broken)
+
+-- an answer with parts is of fields that are all kept
+pub fields-kept : (c : List ℕ) (n p : ℕ) {a : Parts} → Ok a ≡ parted c (fields_fault c) n p → (fields_fault c).number ≡ 0
+fields-kept c n p {a} told = (kept-by (fields_fault c) (parts_at c n p) a told).0
 
 -- the icons, counted at p: the count is cut off, or they decide, or what follows them
 module _ (c : List ℕ) (n p : ℕ) where
